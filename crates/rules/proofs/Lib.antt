@@ -1,0 +1,4 @@
+pub mod BytesLaws
+pub mod Powers
+pub mod Masks
+pub mod Marked

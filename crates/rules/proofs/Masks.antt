@@ -1,0 +1,236 @@
+-- Masks of bits (`specs/Words.antt`), said of `bit`: each bit of a mask that gained, lost or was cut; bounds; the lowest and the highest
+-- set bit. Assumes nothing.
+use mathlib.Core.Path.{_≡_, refl, sym, ap, ap₂, _∙_, subst}
+use Prim.Native.Nat.{ℕ, zero, suc, _+_, _-_, _*_, _/_, _%_, _^_, _≤_, _<_, min, max}
+use native.Mathlib.Nat.{min-le-left, max-le, max-zero, max-eq-right, one-mul, pow-suc, pow-succ', div-one, div-self, div-eq-of-lt, div-div-eq-div-mul, div-eq-of-lt-le, zero-lt-suc, le-of-suc-le-suc, lt-of-lt-of-le, lt-of-le-of-lt, mul-mod-left, mul-div-cancel, zero-div, mod-lt, sub-le, sub-zero}
+use native.Mathlib.Omega.{arith}
+use lib.Arith.{digits-mod, digits-div, lt-of-le-ne, lt-one}
+use lib.Pow.{pow-pos, pow-lt, pow-mono}
+use lib.Bits.{bitAnd, bitOr, and-step, or-step, and-shr, or-shr, or-lt, and-le-l}
+use lib.Count.{trailingZeros, leadingZeros, under, trailing-le, leading-top}
+use Rattle.rules.specs.Words.{gain, lose, without, lowest, highest}
+
+-- bit i of m, 0 or 1: what `has` asks
+abbrev pub bit : ℕ → ℕ → ℕ
+bit m i = m / 2 ^ i % 2
+
+-- ---- a number by its lowest bit and its half
+
+pub bit-lt : (m i : ℕ) → bit m i < 2
+bit-lt m i = mod-lt (m / 2 ^ i) (zero-lt-suc 1)
+
+bit-zero : (m : ℕ) → bit m 0 ≡ m % 2
+bit-zero m = ap (λ (x : ℕ). x % 2) (div-one m)
+
+-- bit i + 1 of a number is bit i of its half
+bit-suc : (m i : ℕ) → bit m (suc i) ≡ bit (m / 2) i
+bit-suc m i = ap (λ (x : ℕ). m / x % 2) (pow-succ' 2 i) ∙ ap (λ (x : ℕ). x % 2) (sym (div-div-eq-div-mul m 2 (2 ^ i)))
+
+none : (i : ℕ) → bit 0 i ≡ 0
+none i = ap (λ (x : ℕ). x % 2) (zero-div (2 ^ i))
+
+half-below : (w x : ℕ) → x < 2 ^ suc w → x / 2 < 2 ^ w
+half-below w x h = halve (2 ^ w) (subst (λ (p : ℕ). x < p) (pow-suc 2 w) h)
+  where
+    halve : (p : ℕ) → x < p * 2 → x / 2 < p
+    halve p h = omega arith
+
+-- ---- each bit of two masks joined
+
+le-one : {n : ℕ} → n < 2 → n ≤ 1
+le-one h = le-of-suc-le-suc h
+
+pub bit-or : (a b i : ℕ) → bit (bitOr a b) i ≡ max (bit a i) (bit b i)
+bit-or a b i =
+    ap (λ (x : ℕ). x % 2) (or-shr a b i ∙ or-step (a / 2 ^ i) (b / 2 ^ i))
+    ∙ digits-mod (bitOr (a / 2 ^ i / 2) (b / 2 ^ i / 2)) {m = 2} {r = max (bit a i) (bit b i)} (two (max-le (le-one (bit-lt a i)) (le-one (bit-lt b i))))
+  where
+    two : {n : ℕ} → n ≤ 1 → n < 2
+    two h = omega arith
+
+pub bit-and : (a b i : ℕ) → bit (bitAnd a b) i ≡ min (bit a i) (bit b i)
+bit-and a b i =
+    ap (λ (x : ℕ). x % 2) (and-shr a b i ∙ and-step (a / 2 ^ i) (b / 2 ^ i))
+    ∙ digits-mod (bitAnd (a / 2 ^ i / 2) (b / 2 ^ i / 2)) {m = 2} {r = min (bit a i) (bit b i)} (lt-of-le-of-lt (min-le-left (bit a i) (bit b i)) (bit-lt a i))
+
+-- ---- a mask cut by another
+
+without-step : (m k : ℕ) → without m k ≡ without (m / 2) (k / 2) * 2 + (m % 2 - k % 2)
+unfolding without
+without-step m k = ap (λ (x : ℕ). m - x) (and-step m k) ∙ apart m k (bitAnd (m / 2) (k / 2)) (and-le-l (m / 2) (k / 2))
+  where
+    apart : (m k p : ℕ) → p ≤ m / 2 → m - (p * 2 + min (m % 2) (k % 2)) ≡ (m / 2 - p) * 2 + (m % 2 - k % 2)
+    apart m k p h = omega arith
+
+low-bit : (m k : ℕ) → m % 2 - k % 2 < 2
+low-bit m k = omega arith
+
+pub bit-without : (m k i : ℕ) → bit (without m k) i ≡ bit m i - bit k i
+bit-without m k zero =
+    bit-zero (without m k)
+    ∙ ap (λ (x : ℕ). x % 2) (without-step m k)
+    ∙ digits-mod (without (m / 2) (k / 2)) (low-bit m k)
+    ∙ ap₂ (λ (x y : ℕ). x - y) (sym (bit-zero m)) (sym (bit-zero k))
+bit-without m k (suc i) =
+    bit-suc (without m k) i
+    ∙ ap (λ (x : ℕ). bit x i) (ap (λ (x : ℕ). x / 2) (without-step m k) ∙ digits-div (without (m / 2) (k / 2)) (low-bit m k))
+    ∙ bit-without (m / 2) (k / 2) i
+    ∙ ap₂ (λ (x y : ℕ). x - y) (sym (bit-suc m i)) (sym (bit-suc k i))
+
+pub without-le : (m k : ℕ) → without m k ≤ m
+unfolding without
+without-le m k = sub-le m (bitAnd m k)
+
+-- m & !k at w bits
+pub and-not : (w m k : ℕ) → m < 2 ^ w → k < 2 ^ w → bitAnd m ((2 ^ w - 1) - k) ≡ without m k
+unfolding without
+and-not zero m k h g = rw (lt-one h)
+and-not (suc w) m k h g =
+    and-step m ((2 ^ suc w - 1) - k)
+    ∙ ap₂ (λ (x y : ℕ). bitAnd (m / 2) x * 2 + min (m % 2) y) (half k g') (low k g')
+    ∙ ap₂ (λ (x y : ℕ). x * 2 + y) (and-not w (m / 2) (k / 2) (half-below w m h) (half-below w k g)) (cut m k)
+    ∙ sym (without-step m k)
+  where
+    twice : 2 ^ suc w ≡ 2 ^ w * 2
+    twice = pow-suc 2 w
+
+    g' : k < 2 ^ w * 2
+    g' = subst (λ (p : ℕ). k < p) twice g
+
+    half : (k : ℕ) → k < 2 ^ w * 2 → ((2 ^ suc w - 1) - k) / 2 ≡ (2 ^ w - 1) - k / 2
+    half k h = omega (arith, twice)
+
+    low : (k : ℕ) → k < 2 ^ w * 2 → ((2 ^ suc w - 1) - k) % 2 ≡ 1 - k % 2
+    low k h = omega (arith, twice)
+
+    cut : (m k : ℕ) → min (m % 2) (1 - k % 2) ≡ m % 2 - k % 2
+    cut m k = omega arith
+
+-- ---- one bit gained or lost
+
+pub bit-pow-same : (i : ℕ) → bit (2 ^ i) i ≡ 1
+bit-pow-same i = ap (λ (x : ℕ). x % 2) (div-self (pow-pos i))
+
+pub bit-pow-other : (i j : ℕ) → (i ≡ j → ⊥) → bit (2 ^ i) j ≡ 0
+bit-pow-other zero zero h = absurd (h refl)
+bit-pow-other zero (suc j) h = bit-suc 1 j ∙ none j
+bit-pow-other (suc i) zero h = bit-zero (2 ^ suc i) ∙ ap (λ (x : ℕ). x % 2) (pow-suc 2 i) ∙ mul-mod-left (2 ^ i) 2
+bit-pow-other (suc i) (suc j) h =
+    bit-suc (2 ^ suc i) j
+    ∙ ap (λ (x : ℕ). bit x j) (ap (λ (x : ℕ). x / 2) (pow-suc 2 i) ∙ mul-div-cancel (2 ^ i) (zero-lt-suc 1))
+    ∙ bit-pow-other i j (λ e. h (ap suc e))
+
+pub gain-same : (m i : ℕ) → bit (gain m i) i ≡ 1
+unfolding gain
+gain-same m i = bit-or m (2 ^ i) i ∙ ap (max (bit m i)) (bit-pow-same i) ∙ max-eq-right (le-one (bit-lt m i))
+
+pub gain-other : (m i j : ℕ) → (i ≡ j → ⊥) → bit (gain m i) j ≡ bit m j
+unfolding gain
+gain-other m i j h = bit-or m (2 ^ i) j ∙ ap (max (bit m j)) (bit-pow-other i j h) ∙ max-zero (bit m j)
+
+pub gain-fits : (w m i : ℕ) → i < w → m < 2 ^ w → gain m i < 2 ^ w
+unfolding gain
+gain-fits w m i h g = or-lt w m (2 ^ i) g (pow-lt h)
+
+pub lose-same : (m i : ℕ) → bit (lose m i) i ≡ 0
+unfolding lose without
+lose-same m i = bit-without m (2 ^ i) i ∙ ap (λ (b : ℕ). bit m i - b) (bit-pow-same i) ∙ gone (bit-lt m i)
+  where
+    gone : {n : ℕ} → n < 2 → n - 1 ≡ 0
+    gone h = omega arith
+
+pub lose-other : (m i j : ℕ) → (i ≡ j → ⊥) → bit (lose m i) j ≡ bit m j
+unfolding lose without
+lose-other m i j h = bit-without m (2 ^ i) j ∙ ap (λ (b : ℕ). bit m j - b) (bit-pow-other i j h) ∙ sub-zero (bit m j)
+
+pub lose-le : (m i : ℕ) → lose m i ≤ m
+unfolding lose without
+lose-le m i = without-le m (2 ^ i)
+
+-- the mask falls where a set bit is lost: the measure of a walk over the set bits
+pub lose-less : (m i : ℕ) → bit m i ≡ 1 → lose m i < m
+lose-less m i b = lt-of-le-ne (lose-le m i) (λ e. apart (bit m i) (sym (lose-same m i) ∙ ap (λ (x : ℕ). bit x i) e) b)
+  where
+    apart : (n : ℕ) → 0 ≡ n → n ≡ 1 → ⊥
+    apart n p q = omega arith
+
+-- ---- the lowest set bit
+
+trailing-set : (w m : ℕ) → 0 < m → m < 2 ^ w → bit m (trailingZeros w m) ≡ 1
+unfolding trailingZeros
+trailing-set zero m h g = absurd (between m h g)
+  where
+    between : (m : ℕ) → 0 < m → m < 1 → ⊥
+    between m h g = omega arith
+trailing-set (suc w) m h g = go (m % 2) refl (λ (e : m % 2 ≡ 0). trailing-set w (m / 2) (half-pos m h e) (half-below w m g))
+  where
+    half-pos : (m : ℕ) → 0 < m → m % 2 ≡ 0 → 0 < m / 2
+    half-pos m h e = omega arith
+
+    is-one : (m r : ℕ) → m % 2 ≡ suc r → m % 2 ≡ 1
+    is-one m r e = omega arith
+
+    go : (r : ℕ) → m % 2 ≡ r → (m % 2 ≡ 0 → bit (m / 2) (trailingZeros w (m / 2)) ≡ 1) → bit m (under r (trailingZeros w (m / 2))) ≡ 1
+    go zero e ih = bit-suc m (trailingZeros w (m / 2)) ∙ ih e
+    go (suc r) e ih = bit-zero m ∙ is-one m r e
+
+no-below : (i : ℕ) → i < 0 → ⊥
+no-below i h = omega arith
+
+below-trailing : (w m j : ℕ) → j < trailingZeros w m → bit m j ≡ 0
+unfolding trailingZeros
+below-trailing zero m j h = absurd (no-below j h)
+below-trailing (suc w) m j h = go (m % 2) refl j h (λ i k. below-trailing w (m / 2) i k)
+  where
+    go : (r : ℕ) → m % 2 ≡ r → (j : ℕ) → j < under r (trailingZeros w (m / 2)) → ((i : ℕ) → i < trailingZeros w (m / 2) → bit (m / 2) i ≡ 0) → bit m j ≡ 0
+    go zero e zero h ih = bit-zero m ∙ e
+    go zero e (suc j) h ih = bit-suc m j ∙ ih j (le-of-suc-le-suc h)
+    go (suc r) e j h ih = absurd (no-below j h)
+
+pub below-lowest : (m j : ℕ) → j < lowest m → bit m j ≡ 0
+unfolding lowest
+below-lowest m j h = below-trailing 64 m j h
+
+module _ (m : ℕ) (h : 0 < m) (g : m < 2 ^ 64) where
+  pub bit-lowest : bit m (lowest m) ≡ 1
+  unfolding lowest
+  bit-lowest = trailing-set 64 m h g
+
+  pub lowest-lt : lowest m < 64
+  unfolding lowest
+  lowest-lt = lt-of-le-ne (trailing-le 64 m) (λ (e : lowest m ≡ 64). apart (bit m 64) (ap (λ (n : ℕ). n % 2) (div-eq-of-lt g)) (subst (λ (k : ℕ). bit m k ≡ 1) e bit-lowest))
+    where
+      apart : (n : ℕ) → n ≡ 0 → n ≡ 1 → ⊥
+      apart n p q = omega arith
+
+  -- ---- the highest set bit
+
+  -- the zeros above it leave room for it, and m lies between its power and the next
+  pub highest-is : (leadingZeros 64 m ≤ 63) × (2 ^ highest m ≤ m) × (m < 2 ^ suc (highest m))
+  unfolding highest
+  highest-is =
+      let t = leading-top 64 m h g in
+      let e : 63 - leadingZeros 64 m ≡ t .0 = place (leadingZeros 64 m) (t .0) (t .1) in
+      (room (leadingZeros 64 m) (t .0) (t .1), subst (λ (j : ℕ). 2 ^ j ≤ m) (sym e) (t .2), subst (λ (j : ℕ). m < 2 ^ suc j) (sym e) (t .3))
+    where
+      place : (l j : ℕ) → l + suc j ≡ 64 → 63 - l ≡ j
+      place l j e = omega arith
+
+      room : (l j : ℕ) → l + suc j ≡ 64 → l ≤ 63
+      room l j e = omega arith
+
+  pub bit-highest : bit m (highest m) ≡ 1
+  bit-highest =
+      ap (λ (n : ℕ). n % 2)
+      (div-eq-of-lt-le {k = 1} (2 ^ highest m) (subst (λ (n : ℕ). n ≤ m) (sym (one-mul (2 ^ highest m))) (highest-is .1))
+      (subst (λ (n : ℕ). m < n) (pow-succ' 2 (highest m)) (highest-is .2)))
+
+  pub above-highest : (j : ℕ) → highest m < j → bit m j ≡ 0
+  above-highest j k = ap (λ (n : ℕ). n % 2) (div-eq-of-lt (lt-of-lt-of-le (highest-is .2) (pow-mono k)))
+
+pub highest-lt : (m : ℕ) → highest m < 64
+unfolding highest
+highest-lt m = below (leadingZeros 64 m)
+  where
+    below : (l : ℕ) → 63 - l < 64
+    below l = omega arith

@@ -1,0 +1,176 @@
+-- The fields of a device: by name, and by the numbers of document 01, "Journal records". Assumes nothing.
+use mathlib.Core.Bool.{Bool, true, false, cond}
+use mathlib.Core.List.{List, [], _∷_, _++_}
+use mathlib.Core.Option.{Option, none, some}
+use Prim.Native.Nat.{ℕ, zero, suc, _+_, _-_, _*_, _/_, _%_, _^_}
+use lib.Dec.{ltb}
+use lib.ListN.{getD, set, replicate}
+use Rattle.rules.specs.declared.Controller.{Controller}
+use Rattle.rules.specs.declared.Device.{Device}
+use Rattle.rules.specs.Act.{Field, CR, ERQ, EEI, INT, ERR, KICK, DEFERRED, DEADLINE, LEVEL, STANDING, MASKS, FORCED, LINES, CONFIG, BUSY, MAJORS, PENDING, SOURCE, TAKEN, Setting, IGNORE}
+use Rattle.rules.specs.With.{withCr, withErq, withEei, withInt, withErr, withKick, withDeferred, withDeadline, withStanding, withLevel, withBusy, withMajors, withPending, withControllers, withTaken, withMasks, withForced, withLines, withConfig, withLevels}
+
+-- ---- by name
+
+abbrev pub noController : Controller
+noController = record { masks = 0; forced = 0; lines = 0; levels = []; config = 0 }
+
+abbrev pub controller : List Controller → ℕ → Controller
+controller l c = getD l c noController
+
+-- what a device holds in a field
+abbrev pub holds : Field → Device → ℕ
+holds CR d = d .cr
+holds ERQ d = d .erq
+holds EEI d = d .eei
+holds INT d = d .int
+holds ERR d = d .err
+holds KICK d = d .kick
+holds DEFERRED d = d .deferred
+holds DEADLINE d = d .deadline
+holds LEVEL d = d .level
+holds STANDING d = d .standing
+holds (MASKS c) d = controller (d .controllers) c .masks
+holds (FORCED c) d = controller (d .controllers) c .forced
+holds (LINES c) d = controller (d .controllers) c .lines
+holds (CONFIG c) d = controller (d .controllers) c .config
+holds (BUSY ch) d = getD (d .busy) ch 0
+holds (MAJORS ch) d = getD (d .majors) ch 0
+holds (PENDING ch) d = getD (d .pending) ch 0
+holds (SOURCE c s) d = getD (controller (d .controllers) c .levels) s 0
+holds (TAKEN i) d = getD (d .taken) i 0
+
+-- controller c of the device, changed
+abbrev pub onController : Device → ℕ → (Controller → Controller) → Device
+onController d c g = withControllers d (set (d .controllers) c (g (controller (d .controllers) c)))
+
+-- the device with another value in a field
+abbrev pub withField : Field → ℕ → Device → Device
+withField CR v d = withCr d v
+withField ERQ v d = withErq d v
+withField EEI v d = withEei d v
+withField INT v d = withInt d v
+withField ERR v d = withErr d v
+withField KICK v d = withKick d v
+withField DEFERRED v d = withDeferred d v
+withField DEADLINE v d = withDeadline d v
+withField LEVEL v d = withLevel d v
+withField STANDING v d = withStanding d v
+withField (MASKS c) v d = onController d c (λ k. withMasks k v)
+withField (FORCED c) v d = onController d c (λ k. withForced k v)
+withField (LINES c) v d = onController d c (λ k. withLines k v)
+withField (CONFIG c) v d = onController d c (λ k. withConfig k v)
+withField (BUSY ch) v d = withBusy d (set (d .busy) ch v)
+withField (MAJORS ch) v d = withMajors d (set (d .majors) ch v)
+withField (PENDING ch) v d = withPending d (set (d .pending) ch v)
+withField (SOURCE c s) v d = onController d c (λ k. withLevels k (set (k .levels) s v))
+withField (TAKEN i) v d = withTaken d (set (d .taken) i v)
+
+-- CR, pending: 32 bits; ICONFIG 16; levels 8; others 64
+unfoldable pub bitsOf : Field → ℕ
+bitsOf CR = 32
+bitsOf ERQ = 64
+bitsOf EEI = 64
+bitsOf INT = 64
+bitsOf ERR = 64
+bitsOf KICK = 64
+bitsOf DEFERRED = 64
+bitsOf DEADLINE = 64
+bitsOf LEVEL = 8
+bitsOf STANDING = 64
+bitsOf (MASKS c) = 64
+bitsOf (FORCED c) = 64
+bitsOf (LINES c) = 64
+bitsOf (CONFIG c) = 16
+bitsOf (BUSY ch) = 64
+bitsOf (MAJORS ch) = 64
+bitsOf (PENDING ch) = 32
+bitsOf (SOURCE c s) = 8
+bitsOf (TAKEN i) = 64
+
+abbrev pub settingOf : Setting → Device → Bool
+settingOf IGNORE d = d .«ignore_masks»
+
+-- ---- by number
+
+unfoldable pub numberOf : Field → ℕ
+numberOf CR = 0
+numberOf ERQ = 1
+numberOf EEI = 2
+numberOf INT = 3
+numberOf ERR = 4
+numberOf KICK = 5
+numberOf DEFERRED = 6
+numberOf DEADLINE = 7
+numberOf LEVEL = 8
+numberOf STANDING = 9
+numberOf (MASKS c) = 16 + 4 * c
+numberOf (FORCED c) = 17 + 4 * c
+numberOf (LINES c) = 18 + 4 * c
+numberOf (CONFIG c) = 19 + 4 * c
+numberOf (BUSY ch) = 64 + ch
+numberOf (MAJORS ch) = 128 + ch
+numberOf (PENDING ch) = 192 + ch
+numberOf (SOURCE c s) = 256 + 64 * c + s
+numberOf (TAKEN i) = 512 + (64 + i)
+
+-- the field of a number, if it has one
+unfoldable pub ofController : ℕ → ℕ → Field
+ofController zero c = MASKS c
+ofController (suc zero) c = FORCED c
+ofController (suc (suc zero)) c = LINES c
+ofController (suc (suc (suc k))) c = CONFIG c
+
+unfoldable pub fieldAt : ℕ → Option Field
+fieldAt n =
+    cond (ltb n 10) (some (getD (CR ∷ ERQ ∷ EEI ∷ INT ∷ ERR ∷ KICK ∷ DEFERRED ∷ DEADLINE ∷ LEVEL ∷ STANDING ∷ []) n CR))
+    (cond (ltb n 16) none
+    (cond (ltb n 28) (some (ofController ((n - 16) % 4) ((n - 16) / 4)))
+    (cond (ltb n 64) none
+    (cond (ltb n 128) (some (BUSY (n - 64)))
+    (cond (ltb n 192) (some (MAJORS (n - 128)))
+    (cond (ltb n 256) (some (PENDING (n - 192)))
+    (cond (ltb n 448) (some (SOURCE ((n - 256) / 64) ((n - 256) % 64)))
+    (cond (ltb n 576) none
+    (cond (ltb n 768) (some (TAKEN (n - 576))) none)))))))))
+
+-- a device with another value in the field of a number; where there is no such field, the device
+abbrev pub withSome : Option Field → ℕ → Device → Device
+withSome none v d = d
+withSome (some f) v d = withField f v d
+
+abbrev pub withNumber : ℕ → ℕ → Device → Device
+withNumber n v d = withSome (fieldAt n) v d
+
+-- there is a field, and it can hold the value
+abbrev pub fitsSome : Option Field → ℕ → Bool
+fitsSome none v = false
+fitsSome (some f) v = ltb v (2 ^ bitsOf f)
+
+-- ---- all the fields of a device, by number, as a list in parts; 0 where there is no such field
+
+unfoldable pub joined : List (List ℕ) → List ℕ
+joined [] = []
+joined (p ∷ ps) = p ++ joined ps
+
+abbrev pub masksOf : Controller → List ℕ → List ℕ
+masksOf c rest = c .masks ∷ c .forced ∷ c .lines ∷ c .config ∷ rest
+
+-- fields 0 to 63
+unfoldable pub headOf : Device → List ℕ
+headOf d =
+    d .cr ∷ d .erq ∷ d .eei ∷ d .int ∷ d .err ∷ d .kick ∷ d .deferred ∷ d .deadline ∷ d .level ∷ d .standing ∷ 0 ∷ 0 ∷ 0 ∷ 0 ∷ 0 ∷ 0
+    ∷ masksOf (controller (d .controllers) 0) (masksOf (controller (d .controllers) 1) (masksOf (controller (d .controllers) 2) (replicate 36 0)))
+
+unfoldable pub partsOf : Device → List (List ℕ)
+partsOf d =
+    headOf d ∷ d .busy ∷ d .majors ∷ d .pending
+    ∷ controller (d .controllers) 0 .levels ∷ controller (d .controllers) 1 .levels ∷ controller (d .controllers) 2 .levels ∷ replicate 128 0 ∷ d .taken ∷ []
+
+unfoldable pub fieldsOf : Device → List ℕ
+fieldsOf d = joined (partsOf d)
+
+-- on an `unfolding` line: all the definitions of this file
+unfoldable pub fields : Unit {0}
+unfolding bitsOf numberOf ofController fieldAt joined headOf partsOf fieldsOf
+fields = tt

@@ -1,0 +1,12 @@
+pub mod Bytes
+pub mod Words
+pub mod With
+pub mod Act
+pub mod Fields
+pub mod Carry
+pub mod Minor
+pub mod Run
+pub mod Lines
+pub mod Registers
+pub mod TakeBack
+pub mod Calls

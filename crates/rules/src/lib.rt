@@ -1,0 +1,97 @@
+// The types of the engine, by value: descriptors, controllers, the device, and what the calls answer.
+// What they mean is defined in specs/, by document 01.
+
+// A descriptor: 32 big-endian bytes of the table, in this order. The names are those of the Rust.
+pub struct Tcd {
+    pub saddr: u32,
+    pub attr: u16,
+    pub soff: u16,
+    pub nbytes: u32,
+    pub slast: u32,
+    pub daddr: u32,
+    pub citer: u16,
+    pub doff: u16,
+    pub dlast: u32,
+    pub biter: u16,
+    pub csr: u16,
+}
+
+// One interrupt controller: its masks (IMR), forced sources (FRC), lines, ICONFIG and its 64 level bytes.
+pub struct Controller {
+    pub masks: u64,
+    pub forced: u64,
+    pub lines: u64,
+    pub levels: [u8; 64],
+    pub config: u16,
+}
+
+// The whole device. Wide numbers stand first, then arrays, then narrow numbers: the order that copies best.
+pub struct Device {
+    pub erq: u64,
+    pub eei: u64,
+    pub int: u64,
+    pub err: u64,
+    pub kick: u64,
+    pub deferred: u64,
+    pub deadline: u64,
+    pub standing: u64,
+    pub table: [u8; 2048],
+    pub busy: [u64; 64],
+    pub majors: [u64; 64],
+    pub taken: [u64; 192],
+    pub pending: [u32; 64],
+    pub controllers: [Controller; 3],
+    pub cr: u32,
+    pub level: u8,
+    pub ignore_masks: bool,
+}
+
+// Why a call is refused, in the order of document 01's numbers 1 to 13.
+pub enum Refusal {
+    Size,
+    Address,
+    Register,
+    Crossing,
+    Window,
+    Journal,
+    Time,
+    Channel,
+    Outside,
+    Staging,
+    Room,
+    NothingStands,
+    Damaged,
+}
+
+// How a call ends.
+pub enum Verdict {
+    Accepted,
+    Refused(Refusal),
+}
+
+// What an act answers: how it ended, the journal's used length, the device.
+pub struct Acted {
+    pub verdict: Verdict,
+    pub used: usize,
+    pub device: Device,
+}
+
+// What a register read answers.
+pub enum Reading {
+    Value(u32),
+    Refused(Refusal),
+}
+
+// What an acknowledge finds: nothing, or a source with its level and vector.
+pub enum Heard {
+    Nothing,
+    Source(u8, u8),
+}
+
+// What an acknowledge answers.
+pub struct Acknowledged {
+    pub verdict: Verdict,
+    pub heard: Heard,
+    pub used: usize,
+    pub device: Device,
+}

@@ -1,0 +1,218 @@
+// The leaves of the engine: sizes, sums of addresses, big-endian words, counts with a link, and masks of 64 bits.
+// Each contract is an equation with a definition of crate `rules` (specs/Words.antt, specs/Bytes.antt). Quoted words are document 01's.
+ghost use mathlib.Core.Path.{_≡_};
+ghost use Prim.Native.Nat.{_+_, _*_, _^_, _≤_, _<_};
+ghost use lib.ListN.{length};
+ghost use Rattle.rules.specs.Bytes.{bytes, number, part, splice};
+ghost use Rattle.rules.specs.Words.{has, gain, lose, without, lowest, highest, sizeOf, unitOf, wholes, signed, moduloAdd, linked, countOf, linkOf, recount};
+ghost use Rattle.words.specs.Sizes.{Sized};
+
+// "Size codes 0, 1, 2, 4, 5 mean 1, 2, 4, 16, 32 bytes; 3, 6, 7 mean 1."
+const SIZES: [u32; 8] = [1, 2, 4, 1, 16, 32, 1, 1];
+
+// The bytes of a size code, which is the low 3 bits of `code`.
+pub fn size_of(code: u16) -> u32
+    ensures { λ r. ⌜ (r ≡ sizeOf code) × (Sized r) ⌝ }
+{
+    SIZES[(code % 8) as usize]
+}
+
+// "A size moves in units (the size, at most 4 bytes)".
+pub fn unit_of(size: u32) -> u32
+    ensures { λ r. ⌜ r ≡ unitOf size ⌝ }
+{
+    if size < 4 { size } else { 4 }
+}
+
+// "Rounding up to whole sizes": how many of them `n` bytes take. A byte count is at most 2^22, so that all their bytes fit.
+pub fn whole_sizes(n: u32, size: u32) -> u32
+    requires { ⌜ (n ≤ 2 ^ 22) × (0 < size) × (size ≤ 32) ⌝ }
+    ensures { λ r. ⌜ (r ≡ wholes n size) × (r * size < 2 ^ 32) ⌝ }
+{
+    (n + size - 1) / size
+}
+
+// "Every address sum wraps at 2^32; with modulo m above 0 only the low m bits move." A descriptor's modulo has 5 bits.
+pub fn modulo_add(addr: u32, delta: u32, m: u32) -> u32
+    requires { ⌜ m < 32 ⌝ }
+    ensures { λ r. ⌜ r ≡ moduloAdd addr delta m ⌝ }
+{
+    let sum = std::num::wrapping_add_u32(addr, delta);
+    if m == 0 {
+        return sum;
+    }
+    let mask = (1u32 << m) - 1;
+    (addr & !mask) | (sum & mask)
+}
+
+// "Offsets `soff` and `doff` are signed 16-bit": what is added for one in a sum that wraps at 2^32.
+pub fn signed16(n: u16) -> u32
+    ensures { λ r. ⌜ r ≡ signed 16 n ⌝ }
+{
+    if n < 0x8000 {
+        n as u32
+    } else {
+        (n as u32) + 0xFFFF0000
+    }
+}
+
+// "The offset is the signed 20 bits 29..10": what is added for it in a sum that wraps at 2^32.
+pub fn signed20(n: u32) -> u32
+    requires { ⌜ n < 2 ^ 20 ⌝ }
+    ensures { λ r. ⌜ r ≡ signed 20 n ⌝ }
+{
+    if n < 0x80000 { n } else { n + 0xFFF00000 }
+}
+
+// ---- "Memory is big-endian": the number of 1, 2, 4 or 8 bytes at `at`. Each width is two of the half; the low half is read first,
+// so that the compiler sees one load, of 8 bytes too.
+
+pub fn get1(s: &[u8], at: usize) -> u8
+    requires { ⌜ at + 1 ≤ length (now s) ⌝ }
+    ensures { λ r. ⌜ r ≡ number (part (now (s .entry)) at 1) ⌝ }
+{
+    s[at]
+}
+
+pub fn get2(s: &[u8], at: usize) -> u16
+    requires { ⌜ at + 2 ≤ length (now s) ⌝ }
+    ensures { λ r. ⌜ r ≡ number (part (now (s .entry)) at 2) ⌝ }
+{
+    let low = get1(s, at + 1) as u16;
+    let high = get1(s, at) as u16;
+    high * 0x100 + low
+}
+
+pub fn get4(s: &[u8], at: usize) -> u32
+    requires { ⌜ at + 4 ≤ length (now s) ⌝ }
+    ensures { λ r. ⌜ r ≡ number (part (now (s .entry)) at 4) ⌝ }
+{
+    let low = get2(s, at + 2) as u32;
+    let high = get2(s, at) as u32;
+    high * 0x10000 + low
+}
+
+pub fn get8(s: &[u8], at: usize) -> u64
+    requires { ⌜ at + 8 ≤ length (now s) ⌝ }
+    ensures { λ r. ⌜ r ≡ number (part (now (s .entry)) at 8) ⌝ }
+{
+    let low = get4(s, at + 4) as u64;
+    let high = get4(s, at) as u64;
+    high * 0x100000000 + low
+}
+
+// ---- the same stored: the bytes of `v` are laid over those at `at`.
+
+pub fn put1(s: &mut [u8], at: usize, v: u8)
+    requires { ⌜ at + 1 ≤ length (now s) ⌝ }
+    ensures { λ _. ⌜ now (s .exit) ≡ splice (now (s .entry)) at (bytes 1 v) ⌝ }
+{
+    s[at] = v;
+}
+
+pub fn put2(s: &mut [u8], at: usize, v: u16)
+    requires { ⌜ at + 2 ≤ length (now s) ⌝ }
+    ensures { λ _. ⌜ now (s .exit) ≡ splice (now (s .entry)) at (bytes 2 v) ⌝ }
+{
+    put1(s, at, (v / 0x100) as u8);
+    put1(s, at + 1, (v % 0x100) as u8);
+}
+
+pub fn put4(s: &mut [u8], at: usize, v: u32)
+    requires { ⌜ at + 4 ≤ length (now s) ⌝ }
+    ensures { λ _. ⌜ now (s .exit) ≡ splice (now (s .entry)) at (bytes 4 v) ⌝ }
+{
+    put2(s, at, (v / 0x10000) as u16);
+    put2(s, at + 2, (v % 0x10000) as u16);
+}
+
+pub fn put8(s: &mut [u8], at: usize, v: u64)
+    requires { ⌜ at + 8 ≤ length (now s) ⌝ }
+    ensures { λ _. ⌜ now (s .exit) ≡ splice (now (s .entry)) at (bytes 8 v) ⌝ }
+{
+    put4(s, at, (v / 0x100000000) as u32);
+    put4(s, at + 4, (v % 0x100000000) as u32);
+}
+
+// ---- counts. "If bit 15 of a count is set, the count is its low 9 bits and bits 14..9 the link; else it is the low 15 bits with no link."
+
+pub fn is_linked(raw: u16) -> bool
+    ensures { λ r. ⌜ r ≡ linked raw ⌝ }
+{
+    has_bit(raw as u64, 15)
+}
+
+pub fn count_of(raw: u16) -> u16
+    ensures { λ r. ⌜ r ≡ countOf raw ⌝ }
+{
+    if is_linked(raw) {
+        raw % 0x200
+    } else {
+        raw % 0x8000
+    }
+}
+
+// The link, which means something only where the count is linked.
+pub fn link_of(raw: u16) -> usize
+    ensures { λ r. ⌜ (r ≡ linkOf raw) × (r < 64) ⌝ }
+{
+    (raw / 0x200 % 64) as usize
+}
+
+// The same field with a lower count: bit 15 and the link stay.
+pub fn recounted(raw: u16, n: u16) -> u16
+    requires { ⌜ n < countOf raw ⌝ }
+    ensures { λ r. ⌜ r ≡ recount raw n ⌝ }
+{
+    if is_linked(raw) {
+        raw / 0x200 * 0x200 + n
+    } else {
+        n
+    }
+}
+
+// ---- masks of 64 bits: bit `i` asked, gained, lost
+
+pub fn has_bit(x: u64, i: usize) -> bool
+    requires { ⌜ i < 64 ⌝ }
+    ensures { λ r. ⌜ r ≡ has x i ⌝ }
+{
+    (x >> i) % 2 == 1
+}
+
+pub fn gain_bit(x: u64, i: usize) -> u64
+    requires { ⌜ i < 64 ⌝ }
+    ensures { λ r. ⌜ r ≡ gain x i ⌝ }
+{
+    x | (1u64 << i)
+}
+
+pub fn lose_bit(x: u64, i: usize) -> u64
+    requires { ⌜ i < 64 ⌝ }
+    ensures { λ r. ⌜ r ≡ lose x i ⌝ }
+{
+    without(x, 1u64 << i)
+}
+
+// The bits of `x` that are not in `k`.
+pub fn without(x: u64, k: u64) -> u64
+    ensures { λ r. ⌜ r ≡ without x k ⌝ }
+{
+    x & !k
+}
+
+// "The lowest set bit of KICK is served next": "trailing zeros choose the channel".
+pub fn lowest_bit(x: u64) -> usize
+    requires { ⌜ 0 < x ⌝ }
+    ensures { λ r. ⌜ (r ≡ lowest x) × (r < 64) ⌝ }
+{
+    u64::trailing_zeros(x) as usize
+}
+
+// "Leading zeros walk deliverable sources downwards": the highest set bit.
+pub fn highest_bit(x: u64) -> usize
+    requires { ⌜ 0 < x ⌝ }
+    ensures { λ r. ⌜ (r ≡ highest x) × (r < 64) ⌝ }
+{
+    (63 - u64::leading_zeros(x)) as usize
+}
