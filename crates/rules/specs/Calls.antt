@@ -13,6 +13,8 @@ use Rattle.rules.specs.TakeBack.{takeBack}
 use Rattle.rules.specs.Run.{requesting, runAll, serviceAll}
 use Rattle.rules.specs.Lines.{ownedFrom, relevel, acknowledge}
 use Rattle.rules.specs.Registers.{inBlocks, writeAt, readAt, pastTable, pastWord}
+use Rattle.rules.specs.declared.Acknowledged.{Acknowledged}
+use Rattle.rules.specs.declared.Acted.{Acted}
 use Rattle.rules.specs.declared.Controller.{Controller}
 use Rattle.rules.specs.declared.Device.{Device}
 use Rattle.rules.specs.declared.Heard.{Heard}
@@ -193,6 +195,13 @@ wrongRead d address size =
 pub data Told : Type 0 where
   told : ℕ → Heard → Device → List ℕ → List ℕ → List ℕ → ℕ → Told
 
+-- what an answer tells, with window, staging and journal as they are then
+abbrev pub toldActed : Acted → List ℕ → List ℕ → List ℕ → Told
+toldActed r window staging journal = told (verdictNumber (r .verdict)) Heard.Nothing (r .device) window staging journal (r .used)
+
+abbrev pub toldHeard : Acknowledged → List ℕ → List ℕ → List ℕ → Told
+toldHeard r window staging journal = told (verdictNumber (r .verdict)) (r .heard) (r .device) window staging journal (r .used)
+
 -- staging is all zero after every run or service that is not refused by 1 to 8, and otherwise unchanged
 unfoldable pub stagingAfter : Asked → List ℕ → List ℕ
 stagingAfter (write address size v) staging = staging
@@ -233,6 +242,9 @@ afterBack base d window journal used =
 -- a register read: its number and its value
 pub data ToldRead : Type 0 where
   toldRead : ℕ → ℕ → ToldRead
+
+abbrev pub toldReading : Reading → ToldRead
+toldReading r = toldRead (readingNumber r) (readingValue r)
 
 unfoldable pub orZero : Option ℕ → ℕ
 orZero none = 0

@@ -1,0 +1,502 @@
+-- The guards that `go` tests on stores, and on fetches from the table, never decide: a call that refusals 1 to 8 let pass stores in legal
+-- widths only, and reaches into the table's 2048 bytes only; so without these tests its act goes the same. Assumes nothing.
+use mathlib.Core.Bool.{Bool, true, false, cond, _&&_, _||_, not, false≢true}
+use mathlib.Core.List.{List, [], _∷_}
+use mathlib.Core.Option.{Option}
+use mathlib.Core.Path.{_≡_, refl, ap, _∙_}
+use Prim.Native.Nat.{ℕ, zero, suc, _+_, _-_, _/_, _%_, _^_, _<_, _≤_, zero-le, suc-le-suc}
+use native.Mathlib.Omega.{arith}
+use lib.Count.{trailingZeros, under}
+use lib.Dec.{eqb, leb, ltb, lit<}
+use lib.ListN.{getD, length}
+use borrow.Author.Tests.{eqb-false, eqb-true, leb-true, ltb-false, not-false}
+use Rattle.rules.specs.Act.{Act, Done, Endless, Stage, Fetch, Store, Ask, Put, Look, Space, window, table, nothing, CR, ERQ, EEI, INT, ERR, KICK, DEFERRED, DEADLINE, LEVEL, STANDING, MASKS, FORCED, LINES, CONFIG, BUSY, MAJORS, PENDING, SOURCE, TAKEN, IGNORE}
+use Rattle.rules.specs.Fields.{bitsOf, holds, settingOf}
+use Rattle.rules.specs.Carry.{World, Out, ok, no, there, legal, fetched, recorded, go}
+use Rattle.rules.specs.Words.{has, lowest}
+use Rattle.rules.specs.Minor.{START, DONE, descriptor, pass}
+use Rattle.rules.specs.Run.{requests, offered, waiting, requesting, startLoop, lineLoop, serveLine, requestLoop, startPasses, linePasses, requestPasses, serve, turn, turns, runTurns, runAll, release, serviceAll}
+use Rattle.rules.specs.Lines.{sources, levelBytes, levelOf, relevel, heardFrom, Found, hear, acknowledge}
+use Rattle.rules.specs.Registers.{within, inTable, blockOf, offsetOf, flagOne, flagEach, setRequests, setStarts, clearDones, command, commands, tableWrite, Arm, pick, dmaArms, dmaWrite, levelsWrite, controllerArms, controllerWrite, writeIn, writeAt, pastTable, pastWord, inBlocks}
+use Rattle.rules.specs.Calls.{setInputs, setPending, orNothing, Asked, write, inputs, pending, run, service, ack, levelled, actOf, badSize, check, isNone, wrong}
+use Rattle.rules.proofs.BoolLaws.{and-left, and-right, or-either}
+use Rattle.rules.proofs.FieldLaws.{holds-fits}
+use Rattle.rules.proofs.Steps.{putting, in-table, fetch-inside}
+use Rattle.rules.proofs.Each.{Rights, Each, at-done, at-endless, at-stage, at-fetch, at-store, at-ask, at-put, at-look, _>>=_, _>>_, each-fetch, each-store, each-ask, each-asked, each-put, each-change, each-look, each-when, each-cond, Proper, proper-store, proper-put, fetched-length}
+use Rattle.rules.proofs.PassLaws.{descriptor-each, pass-each}
+
+infixr 20 _also_
+-- ---- the guards
+
+abbrev pub Inside : Space → ℕ → ℕ → Type 0
+Inside window a n = Unit {0}
+Inside table a n = a + n ≤ 2048
+
+-- every store has a legal width, and every place in the table is inside its 2048 bytes
+unfoldable pub guarded : Rights
+guarded = record {
+  may-fetch = λ sp a n. Inside sp a n;
+  may-store = λ sp a n. (legal sp n ≡ true) × Inside sp a n;
+  may-put = λ f. Unit {0};
+}
+
+-- ---- a pass, and the loops of passes
+
+-- to ask needs no rights
+pub offered-each : {r : Rights} (ch : ℕ) → Each r (offered ch)
+unfolding offered requests
+offered-each ch = do
+  erq ← each-ask ERQ
+  asks ← do
+    standing ← each-ask STANDING
+    count ← each-ask (PENDING ch)
+    at-done
+  at-done
+
+module _ (ch : ℕ) (h : ch < 64) where
+  pass-guarded : Each guarded (pass ch)
+  unfolding guarded legal
+  pass-guarded = pass-each ch record {
+    on-window = record { fetch-unit = λ a n l. tt; store-unit = λ a n l. (l, tt) };
+    fetch-own = omega arith;
+    store-own = λ a n l b w. (w, omega arith);
+    fetch-link = λ to l. omega arith;
+    store-link = λ to l. (refl, omega arith);
+    put-int = tt;
+    put-kick = tt;
+    put-erq = tt;
+    put-majors = tt;
+  }
+
+  own-guarded : Each guarded (descriptor ch)
+  unfolding guarded
+  own-guarded = descriptor-each ch (omega arith)
+
+  start-guarded : (n before : ℕ) → Each guarded (startLoop n ch before)
+  unfolding startLoop
+  start-guarded zero before = at-done
+  start-guarded (suc n) before = do
+    went ← pass-guarded
+    majors ← each-ask (MAJORS ch)
+    each-cond (went && eqb majors before) (λ _. start-guarded n before) (λ _. at-done)
+
+  request-guarded : (n : ℕ) → Each guarded (requestLoop n ch)
+  unfolding requestLoop guarded
+  request-guarded zero = at-done
+  request-guarded (suc n) = do
+    asks ← offered-each ch
+    each-cond asks
+        (λ _. do
+          _ ← each-change (PENDING ch) _ tt
+          went ← pass-guarded
+          each-cond went (λ _. request-guarded n) (λ _. at-done))
+        (λ _. at-done)
+
+line-guarded : (n sum : ℕ) → Each guarded (lineLoop n sum)
+unfolding lineLoop
+line-guarded zero sum = at-endless
+line-guarded (suc n) sum = do
+  t ← own-guarded 35 (lit< tt)
+  went ← pass-guarded 35 (lit< tt)
+  t′ ← own-guarded 35 (lit< tt)
+  each-cond went
+      (λ _. each-cond (has (t′ .csr) DONE || ltb (2 ^ 20) (sum + t .nbytes)) (λ _. at-done) (λ _. line-guarded n (sum + t .nbytes)))
+      (λ _. at-done)
+
+-- ---- turns
+
+-- the lowest set bit of a mask of k bits that is not 0 is below k
+under-below : (digit below k : ℕ) → (digit ≡ 0 → below < k) → under digit below < suc k
+under-below zero below k h = suc-le-suc (h refl)
+under-below (suc digit) below k h = suc-le-suc zero-le
+
+trailing-below : (k m : ℕ) → 0 < m → m < 2 ^ k → trailingZeros k m < k
+unfolding trailingZeros
+trailing-below zero m h l = absurd (omega arith)
+trailing-below (suc k) m h l = under-below (m % 2) (trailingZeros k (m / 2)) k (λ e. trailing-below k (m / 2) (omega arith) (omega arith))
+
+pub lowest-below : (m : ℕ) → 0 < m → m < 2 ^ 64 → lowest m < 64
+unfolding lowest
+lowest-below m h l = trailing-below 64 m h l
+
+module _ (now pace : ℕ) where
+  serve-guarded : (ch : ℕ) → ch < 64 → Each guarded (serve now pace ch)
+  unfolding serve serveLine guarded
+  serve-guarded ch h = do
+    t ← own-guarded ch h
+    majors ← each-ask (MAJORS ch)
+    asks ← offered-each ch
+    each-cond (has (t .csr) START)
+        (λ _. start-guarded ch h startPasses majors)
+        (λ _. each-when asks λ _. each-cond (eqb ch 35)
+        (λ _. do
+          sum ← line-guarded linePasses 0
+          each-put (BUSY 35) _ tt
+          each-change DEADLINE _ tt)
+        (λ _. request-guarded ch h requestPasses))
+
+  turn-guarded : (ch : ℕ) → ch < 64 → Each guarded (turn now pace ch)
+  unfolding turn guarded
+  turn-guarded ch h = do
+    each-change KICK _ tt
+    busy ← each-ask (BUSY ch)
+    each-cond (ltb now busy) (λ _. each-change DEFERRED _ tt) (λ _. serve-guarded ch h)
+
+  turns-guarded : (n : ℕ) → Each guarded (turns now pace n)
+  unfolding turns bitsOf
+  turns-guarded zero = at-done
+  turns-guarded (suc n) =
+      each-asked KICK λ kick l. each-cond (eqb kick 0) (λ _. at-done) (λ e. do
+        _ ← turn-guarded (lowest kick) (lowest-below kick (omega (arith, eqb-false kick 0 e)) l)
+        turns-guarded n)
+
+  run-guarded : Each guarded (runAll now pace)
+  unfolding runAll
+  run-guarded = turns-guarded runTurns
+
+-- ---- service
+
+release-guarded : (now left ch m : ℕ) → Each guarded (release now left ch m)
+unfolding release guarded
+release-guarded now zero ch m = at-done
+release-guarded now (suc left) ch m = do
+  busy ← each-ask (BUSY ch)
+  erq ← each-ask ERQ
+  _ ← each-when _ (λ _. each-put (BUSY ch) 0 tt)
+  release-guarded now left (suc ch) _
+
+waiting-guarded : (left ch m : ℕ) → Each guarded (waiting left ch m)
+unfolding waiting
+waiting-guarded zero ch m = at-done
+waiting-guarded (suc left) ch m = do
+  count ← each-ask (PENDING ch)
+  waiting-guarded left (suc ch) _
+
+requesting-guarded : Each guarded requesting
+unfolding requesting
+requesting-guarded = do
+  standing ← each-ask STANDING
+  waiting-guarded 64 0 standing
+
+service-guarded : (now pace : ℕ) → Each guarded (serviceAll now pace)
+unfolding serviceAll guarded
+service-guarded now pace = do
+  back ← release-guarded now 64 0 0
+  deferred ← each-ask DEFERRED
+  asking ← requesting-guarded
+  each-put DEFERRED 0 tt
+  each-change KICK _ tt
+  run-guarded now pace
+
+-- ---- lines, level, acknowledge
+
+sources-guarded : (c : ℕ) → Each guarded (sources c)
+unfolding sources
+sources-guarded c = do
+  ignore ← each-look IGNORE
+  lines ← each-ask (LINES c)
+  masks ← each-ask (MASKS c)
+  forced ← each-ask (FORCED c)
+  at-done
+
+levels-guarded : (c left s : ℕ) → Each guarded (levelBytes c left s)
+unfolding levelBytes
+levels-guarded c zero s = at-done
+levels-guarded c (suc left) s = do
+  l ← each-ask (SOURCE c s)
+  rest ← levels-guarded c left (suc s)
+  at-done
+
+level-guarded : (c : ℕ) → Each guarded (levelOf c)
+unfolding levelOf
+level-guarded c = do
+  m ← sources-guarded c
+  levels ← levels-guarded c 64 0
+  at-done
+
+relevel-guarded : Each guarded relevel
+unfolding relevel guarded
+relevel-guarded = do
+  int ← each-ask INT
+  each-change (LINES 0) _ tt
+  each-change (LINES 1) _ tt
+  each-change (LINES 2) _ tt
+  l0 ← level-guarded 0
+  l1 ← level-guarded 1
+  l2 ← level-guarded 2
+  each-put LEVEL _ tt
+
+heard-guarded : (ipl c : ℕ) (below : Found) → Each guarded (heardFrom ipl c below)
+unfolding heardFrom
+heard-guarded ipl c below = do
+  m ← sources-guarded c
+  levels ← levels-guarded c 64 0
+  at-done
+
+acknowledge-guarded : (ipl : ℕ) → Each guarded (acknowledge ipl)
+unfolding acknowledge hear guarded
+acknowledge-guarded ipl = do
+  h0 ← heard-guarded ipl 0 (0, 0)
+  h1 ← heard-guarded ipl 1 h0
+  h2 ← heard-guarded ipl 2 h1
+  each-cond (eqb (h2 .0) 0) (λ _. at-done) (λ _. do
+    each-change (TAKEN (h2 .1)) _ tt
+    at-done)
+
+-- ---- registers
+
+module _ (g : ℕ → ℕ) (m : ℕ) where
+  flag-guarded : (ch : ℕ) → ch < 64 → Each guarded (flagOne g ch)
+  unfolding flagOne guarded legal
+  flag-guarded ch h = do
+    b ← each-fetch _ _ _ (omega arith)
+    each-store _ _ _ _ (refl, omega arith)
+
+  flags-guarded : (left ch : ℕ) → ch + left ≤ 64 → Each guarded (flagEach g m left ch)
+  unfolding flagEach
+  flags-guarded zero ch h = at-done
+  flags-guarded (suc left) ch h = do
+    _ ← each-when (has m ch) (λ _. flag-guarded ch (omega arith))
+    flags-guarded left (suc ch) (omega arith)
+
+set-requests-guarded : (v : ℕ) → Each guarded (setRequests v)
+unfolding setRequests guarded
+set-requests-guarded v = do
+  each-change ERQ _ tt
+  asking ← requesting-guarded
+  each-change KICK _ tt
+
+set-starts-guarded : (v : ℕ) → Each guarded (setStarts v)
+unfolding setStarts guarded
+set-starts-guarded v = do
+  flags-guarded _ _ 64 0 (omega arith)
+  each-change KICK _ tt
+
+-- every act of a row
+data AllGuarded : List (Act (Unit {0})) → Type 0 where
+  no-more : AllGuarded []
+  _also_ : {a : Act (Unit {0})} {row : List (Act (Unit {0}))} → Each guarded a → AllGuarded row → AllGuarded (a ∷ row)
+
+of-row : {row : List (Act (Unit {0}))} (k : ℕ) → AllGuarded row → Each guarded (getD row k nothing)
+of-row zero no-more = at-done
+of-row (suc k) no-more = at-done
+of-row zero (p also q) = p
+of-row (suc k) (p also q) = of-row k q
+
+command-guarded : (k v : ℕ) → Each guarded (command k v)
+unfolding command clearDones guarded
+command-guarded k v =
+    of-row k
+    (set-requests-guarded v
+    also each-change ERQ _ tt
+    also each-change EEI _ tt
+    also each-change EEI _ tt
+    also each-change INT _ tt
+    also each-change ERR _ tt
+    also set-starts-guarded v
+    also flags-guarded _ _ 64 0 (omega arith)
+    also no-more)
+
+commands-guarded : (k v : ℕ) → Each guarded (commands k v)
+unfolding commands
+commands-guarded k v = do
+  command-guarded _ _
+  command-guarded _ _
+  command-guarded _ _
+  command-guarded _ _
+
+-- what the arms of a row do
+abbrev acts : List Arm → List (Act (Unit {0}))
+acts [] = []
+acts (a ∷ row) = a .does ∷ acts row
+
+-- one way or the other, where there is such a register
+either-guarded : (b : Bool) (x y : Option (Act (Unit {0}))) → (b ≡ true → Each guarded (orNothing x)) → (b ≡ false → Each guarded (orNothing y))
+    → Each guarded (orNothing (cond b x y))
+either-guarded true x y p q = p refl
+either-guarded false x y p q = q refl
+
+pick-guarded : (off size : ℕ) (row : List Arm) → AllGuarded (acts row) → Each guarded (orNothing (pick off size row))
+unfolding pick orNothing
+pick-guarded off size [] no-more = at-done
+pick-guarded off size (a ∷ row) (p also q) = either-guarded (eqb off (a .off) && eqb size (a .size)) _ _ (λ _. p) (λ _. pick-guarded off size row q)
+
+-- a descriptor write inside the table
+table-write-guarded : (off size v : ℕ) → legal table size ≡ true → off < 2048 → off + size ≤ 2048 → Each guarded (tableWrite off size v)
+unfolding tableWrite guarded
+table-write-guarded off size v l h s = do
+  each-store _ _ _ _ (l, s)
+  b ← each-fetch _ _ _ (omega arith)
+  each-when _ (λ _. each-change KICK _ tt)
+
+dma-guarded : (off size v : ℕ) → legal table size ≡ true → (inTable off ≡ true → off + size ≤ 0x1800) → Each guarded (orNothing (dmaWrite off size v))
+unfolding dmaWrite orNothing dmaArms inTable within guarded
+dma-guarded off size v l h =
+    either-guarded (inTable off) _ _
+    (λ e.
+    let low : 0x1000 ≤ off = leb-true _ _ (and-left _ _ e) in
+    let high : off ≤ 0x17FF = leb-true _ _ (and-right (leb 0x1000 off) _ e) in
+    let past : off + size ≤ 0x1800 = h e in
+    table-write-guarded (off - 0x1000) size v l (omega arith) (omega arith))
+    (λ _. either-guarded (eqb size 1 && within 0x18 0x1F off) _ _ (λ _. command-guarded (off - 0x18) v)
+    (λ _. either-guarded (eqb size 1 && within 0x100 0x13F off) _ _ (λ _. at-done)
+    (λ _. pick-guarded off size (dmaArms v)
+    (each-put CR v tt
+    also each-change ERQ _ tt
+    also each-change ERQ _ tt
+    also each-change EEI _ tt
+    also each-change EEI _ tt
+    also commands-guarded 0 v
+    also commands-guarded 4 v
+    also each-change INT _ tt
+    also each-change INT _ tt
+    also each-change ERR _ tt
+    also each-change ERR _ tt
+    also no-more))))
+
+levels-write-guarded : (c s : ℕ) (bs : List ℕ) → Each guarded (levelsWrite c s bs)
+unfolding levelsWrite guarded
+levels-write-guarded c s [] = at-done
+levels-write-guarded c s (b ∷ bs) = do
+  _ ← each-when (ltb s 64) (λ _. each-put (SOURCE c s) b tt)
+  levels-write-guarded c (suc s) bs
+
+controller-guarded : (c off size v : ℕ) → Each guarded (orNothing (controllerWrite c off size v))
+unfolding controllerWrite orNothing controllerArms guarded
+controller-guarded c off size v =
+    either-guarded (within 0x00 0x07 off) _ _ (λ _. at-done)
+    (λ _. either-guarded (within 0x08 0x0F off) _ _ (λ _. each-change (MASKS c) _ tt)
+    (λ _. either-guarded (within 0x10 0x17 off) _ _ (λ _. each-change (FORCED c) _ tt)
+    (λ _. either-guarded (within 0x40 0x7F off) _ _ (λ _. levels-write-guarded c (off - 0x40) _)
+    (λ _. pick-guarded off size (controllerArms c v)
+    (each-put (CONFIG c) v tt
+    also each-change (MASKS c) _ tt
+    also each-change (MASKS c) _ tt
+    also at-done
+    also at-done
+    also no-more)))))
+
+write-guarded : (block off size v : ℕ) → legal table size ≡ true → (block ≡ 0 → inTable off ≡ true → off + size ≤ 0x1800)
+    → Each guarded (orNothing (writeIn block off size v))
+unfolding writeIn
+write-guarded zero off size v l h = dma-guarded off size v l (h refl)
+write-guarded (suc c) off size v l h = controller-guarded c off size v
+
+-- ---- the calls
+
+levelled-guarded : (m : Act (Unit {0})) → Each guarded m → Each guarded (levelled m)
+unfolding levelled
+levelled-guarded m p = do
+  p
+  relevel-guarded
+  at-done
+
+inputs-guarded : (standing l0 l1 l2 : ℕ) → Each guarded (setInputs standing l0 l1 l2)
+unfolding setInputs guarded
+inputs-guarded standing l0 l1 l2 = do
+  each-put STANDING standing tt
+  each-change (LINES 0) _ tt
+  each-change (LINES 1) _ tt
+  each-change (LINES 2) _ tt
+  erq ← each-ask ERQ
+  asking ← requesting-guarded
+  each-change KICK _ tt
+
+-- checks in a row that find nothing wrong: neither does the first, nor those after it
+pub passed : (b : Bool) (n next : ℕ) → check b (suc n) next ≡ 0 → (b ≡ false) × (next ≡ 0)
+unfolding check
+passed true n next e = absurd (omega arith)
+passed false n next e = (refl, e)
+
+pub neither : (a b : Bool) → a || b ≡ false → a ≡ false
+neither true b e = e
+neither false b e = refl
+
+size-legal : (size : ℕ) → badSize size ≡ false → legal table size ≡ true
+unfolding badSize legal
+size-legal size e =
+    or-either (eqb size 1 || eqb size 2) (eqb size 4)
+    (or-either (eqb size 1) (eqb size 2) (λ h. rw (eqb-true size 1 h)) (λ h. rw (eqb-true size 2 h)))
+    (λ h. rw (eqb-true size 4 h))
+    (not-false _ e)
+
+not-past : (address size : ℕ) → pastTable address size ≡ false → blockOf address ≡ 0 → inTable (offsetOf address) ≡ true → offsetOf address + size ≤ 0x1800
+unfolding pastTable
+not-past address size e b t = ltb-false 0x1800 (offsetOf address + size) (rw (b, t) at e)
+
+-- of every call that refusals 1 to 8 do not refuse
+pub call-guarded : (base mem journal used : ℕ) (c : Asked) → wrong base mem journal used c ≡ 0 → Each guarded (actOf c)
+unfolding actOf wrong writeAt setPending guarded
+call-guarded base mem journal used (write address size v) e =
+    let one = passed (badSize size) 0 _ e in
+    let two = passed (not (inBlocks address)) 1 _ (one .1) in
+    let three = passed (isNone (writeAt address size v)) 2 _ (two .1) in
+    let four = passed (pastTable address size || pastWord address size) 3 _ (three .1) in
+    levelled-guarded _
+    (write-guarded (blockOf address) (offsetOf address) size v (size-legal size (one .0)) (not-past address size (neither _ _ (four .0))))
+call-guarded base mem journal used (inputs standing l0 l1 l2) e = levelled-guarded _ (inputs-guarded standing l0 l1 l2)
+call-guarded base mem journal used (pending ch count) e = levelled-guarded _ (each-put (PENDING ch) count tt)
+call-guarded base mem journal used (run now pace) e = levelled-guarded _ (run-guarded now pace)
+call-guarded base mem journal used (service now pace) e = levelled-guarded _ (service-guarded now pace)
+call-guarded base mem journal used (ack ipl) e = acknowledge-guarded ipl
+
+-- ---- an act carried out without these tests
+
+module _ (base staging : ℕ) where
+  -- `go`, without the tests of a store's width and of a place in the table
+  unfoldable pub goBare : {A : Type 0} → Act A → World → Out A
+  goBare (Done a) u = ok a u
+  goBare Endless u = no 11 u
+  goBare (Stage n k) u = elim (leb n staging) [ true ↦ goBare k u | false ↦ no 10 u ]
+  goBare (Fetch window a n k) u = elim (there base window a n (u .now)) [ true ↦ goBare (k (fetched base window a n (u .now))) u | false ↦ no 9 u ]
+  goBare (Fetch table a n k) u = goBare (k (fetched base table a n (u .now))) u
+  goBare (Store window a n v k) u =
+      elim (there base window a n (u .now)) [
+        | true ↦ elim (leb 16 (length (u .free))) [ true ↦ goBare k (recorded base window a n v u) | false ↦ no 11 u ]
+        | false ↦ no 9 u
+      ]
+  goBare (Store table a n v k) u = elim (leb 16 (length (u .free))) [ true ↦ goBare k (recorded base table a n v u) | false ↦ no 11 u ]
+  goBare (Ask f k) u = goBare (k (holds f (u .now .dev))) u
+  goBare (Put f v k) u = goBare k (putting f (v % 2 ^ bitsOf f) u)
+  goBare (Look s k) u = goBare (k (settingOf s (u .now .dev))) u
+
+-- a test, the other of two tests that holds, and both
+abbrev tested : {A : Type 0} → Bool → Out A → Out A → Out A
+tested b x y = elim b [ true ↦ x | false ↦ y ]
+
+other-holds : {A : Type 0} (b c : Bool) (z : Out A) {x y : Out A} → c ≡ true → x ≡ y → tested (b && c) x z ≡ tested b y z
+other-holds true true z h e = e
+other-holds true false z h e = absurd (false≢true h)
+other-holds false c z h e = refl
+
+both-hold : {A : Type 0} (b c : Bool) (z : Out A) {x y : Out A} → b ≡ true → c ≡ true → x ≡ y → tested (b && c) x z ≡ y
+both-hold true true z g h e = e
+both-hold true false z g h e = absurd (false≢true h)
+both-hold false c z g h e = absurd (false≢true g)
+
+module _ (base staging : ℕ) where
+  -- they never decide
+  pub bare-same : {A : Type 0} {m : Act A} → Each guarded m → (u : World) → Proper (u .now .dev) → go base staging m u ≡ goBare base staging m u
+  unfolding go goBare guarded
+  bare-same at-done u p = refl
+  bare-same at-endless u p = refl
+  bare-same (at-stage {n} q) u p = ap (λ o. tested (leb n staging) o (no 10 u)) (bare-same q u p)
+  bare-same (at-fetch {sp = window} {a} {n} h q) u p =
+      ap (λ o. tested (there base window a n (u .now)) o (no 9 u)) (bare-same (q _ (fetched-length base window a n (u .now))) u p)
+  bare-same (at-fetch {sp = table} {a} {n} {k} h q) u p =
+      fetch-inside base staging table a n k u (in-table base a n (u .now) (omega (arith, p .size)))
+      ∙ bare-same (q _ (fetched-length base table a n (u .now))) u p
+  bare-same (at-store {sp = window} {a} {n} {v} h q) u p =
+      other-holds (there base window a n (u .now)) (legal window n) (no 9 u) (h .0)
+      (ap (λ o. tested (leb 16 (length (u .free))) o (no 11 u)) (bare-same q (recorded base window a n v u) (proper-store base u p window a n v)))
+  bare-same (at-store {sp = table} {a} {n} {v} h q) u p =
+      both-hold (there base table a n (u .now)) (legal table n) (no 9 u) (in-table base a n (u .now) (omega (arith, p .size, h .1))) (h .0)
+      (ap (λ o. tested (leb 16 (length (u .free))) o (no 11 u)) (bare-same q (recorded base table a n v u) (proper-store base u p table a n v)))
+  bare-same (at-ask {f} q) u p = bare-same (q (holds f (u .now .dev)) (holds-fits f (u .now .dev) (p .sound))) u p
+  bare-same (at-put {f} {v} h q) u p = bare-same q (putting f (v % 2 ^ bitsOf f) u) (proper-put f v u p)
+  bare-same (at-look {s} q) u p = bare-same (q (settingOf s (u .now .dev))) u p
+
+  -- and so for every call that refusals 1 to 8 do not refuse
+  pub call-bare : (mem journal used : ℕ) (c : Asked) → wrong base mem journal used c ≡ 0 → (u : World) → Proper (u .now .dev)
+      → go base staging (actOf c) u ≡ goBare base staging (actOf c) u
+  call-bare mem journal used c e u p = bare-same (call-guarded base mem journal used c e) u p

@@ -1,0 +1,51 @@
+-- Fields, table and the setting determine the device. Assumes nothing.
+use mathlib.Core.Path.{_≡_, refl, sym, ap, _∙_}
+use mathlib.Core.List.{List, []}
+use Prim.Native.Nat.{ℕ, zero, suc, _<_}
+use native.Mathlib.Omega.{arith}
+use lib.ListN.{getD}
+use lib.Seq.{ext-getD}
+use Rattle.rules.specs.declared.Controller.{Controller}
+use Rattle.rules.specs.declared.Device.{Device}
+use Rattle.rules.specs.Fields.{headOf, partsOf, fieldsOf, controller, noController}
+use Rattle.rules.proofs.PartLaws.{parts-same}
+use Rattle.rules.proofs.FieldLaws.{sizes, Sound, sized}
+
+same-controller : (a b : Controller) → a .masks ≡ b .masks → a .forced ≡ b .forced → a .lines ≡ b .lines → a .config ≡ b .config → a .levels ≡ b .levels → a ≡ b
+same-controller a b p q r s t = rw (p, q, r, s, t) refl
+
+below-three : (P : ℕ → Type 0) → P 0 → P 1 → P 2 → (i : ℕ) → i < 3 → P i
+below-three P a b c zero h = a
+below-three P a b c (suc zero) h = b
+below-three P a b c (suc (suc zero)) h = c
+below-three P a b c (suc (suc (suc i))) h = absurd (no i h)
+  where
+    no : (i : ℕ) → suc (suc (suc i)) < 3 → ⊥
+    no i h = omega arith
+
+module _ (d e : Device) (s : Sound d) (t : Sound e) (same : fieldsOf d ≡ fieldsOf e) where
+  parts : partsOf d ≡ partsOf e
+  unfolding fieldsOf
+  parts = parts-same sizes (partsOf d) (partsOf e) (sized d s) (sized e t) same
+
+  part : (k : ℕ) → getD (partsOf d) k [] ≡ getD (partsOf e) k []
+  part k = ap (λ (l : List (List ℕ)). getD l k []) parts
+
+  number : (k : ℕ) → getD (headOf d) k 0 ≡ getD (headOf e) k 0
+  unfolding partsOf
+  number k = ap (λ (l : List ℕ). getD l k 0) (part 0)
+
+  controllers-same : d .controllers ≡ e .controllers
+  unfolding partsOf headOf
+  controllers-same =
+      ext-getD noController (d .controllers) (e .controllers) (s .three ∙ sym (t .three))
+      (λ i h. below-three (λ i. controller (d .controllers) i ≡ controller (e .controllers) i)
+      (same-controller _ _ (number 16) (number 17) (number 18) (number 19) (part 4))
+      (same-controller _ _ (number 20) (number 21) (number 22) (number 23) (part 5))
+      (same-controller _ _ (number 24) (number 25) (number 26) (number 27) (part 6))
+      i (omega (arith, s .three)))
+
+  pub device-same : d .table ≡ e .table → d .«ignore_masks» ≡ e .«ignore_masks» → d ≡ e
+  unfolding partsOf headOf
+  device-same p q =
+      rw (number 0, number 1, number 2, number 3, number 4, number 5, number 6, number 7, number 8, number 9, q, p, part 1, part 2, part 3, controllers-same, part 8) refl
