@@ -1,5 +1,5 @@
 -- Tests joined by `&&` and `||`, taken apart and put together. Assumes nothing.
-use mathlib.Core.Bool.{Bool, true, false, _&&_, _||_, false≢true}
+use mathlib.Core.Bool.{Bool, true, false, _&&_, _||_, false≢true, true≢false}
 use mathlib.Core.Path.{_≡_, refl}
 
 pub and-left : (a b : Bool) → a && b ≡ true → a ≡ true
@@ -16,3 +16,7 @@ and-both e f = rw (e, f)
 pub or-either : {P : Type 0} (a b : Bool) → (a ≡ true → P) → (b ≡ true → P) → a || b ≡ true → P
 or-either true b f g e = f refl
 or-either false b f g e = g e
+
+pub neither : (a b : Bool) → a || b ≡ false → (a ≡ false) × (b ≡ false)
+neither true b e = absurd (true≢false e)
+neither false b e = (refl, e)

@@ -23,7 +23,9 @@ use Rattle.rules.proofs.Steps.{andThen, go-bind, bind-ok, ask-does}
 use Rattle.rules.proofs.Each.{Proper}
 use Rattle.rules.proofs.Leads.{Leads, leads-map, leads-both, shrinks, proper-kept, same-bind, same-cond}
 use Rattle.rules.proofs.PassLaws.{pass-room, citerAt, countAt, count-below, Counted, fewer, ended, pass-counts, majors-kept}
-use Rattle.rules.proofs.Guards.{offered-each, lowest-below, passed, neither}
+use Rattle.rules.proofs.BoolLaws.{neither}
+use Rattle.rules.proofs.CallLaws.{passed}
+use Rattle.rules.proofs.Guards.{offered-each, lowest-below}
 
 -- ---- channel 35
 
@@ -280,7 +282,7 @@ module _ (base staging : ℕ) (o : Limits) (enough : Enough o) where
 -- a journal that refusal 6 lets pass has at most 2^28 bytes
 journal-small : (len used : ℕ) → badJournal len used ≡ false → len ≤ 2 ^ 28
 unfolding badJournal
-journal-small len used e = ltb-false (2 ^ 28) len (neither _ _ (neither _ _ e))
+journal-small len used e = ltb-false (2 ^ 28) len (neither _ _ (neither _ _ e .0) .0)
 
 -- of such a call, refusal 6 was looked at
 checked-6 : (base mem journal used : ℕ) (c : Asked) → wrong base mem journal used c ≡ 0 → badJournal journal used ≡ false

@@ -18,8 +18,9 @@ use Rattle.rules.specs.Minor.{START, DONE, descriptor, pass}
 use Rattle.rules.specs.Run.{requests, offered, waiting, requesting, startLoop, lineLoop, serveLine, requestLoop, startPasses, linePasses, requestPasses, serve, turn, turns, runTurns, runAll, release, serviceAll}
 use Rattle.rules.specs.Lines.{sources, levelBytes, levelOf, relevel, heardFrom, Found, hear, acknowledge}
 use Rattle.rules.specs.Registers.{within, inTable, blockOf, offsetOf, flagOne, flagEach, setRequests, setStarts, clearDones, command, commands, tableWrite, Arm, pick, dmaArms, dmaWrite, levelsWrite, controllerArms, controllerWrite, writeIn, writeAt, pastTable, pastWord, inBlocks}
-use Rattle.rules.specs.Calls.{setInputs, setPending, orNothing, Asked, write, inputs, pending, run, service, ack, levelled, actOf, badSize, check, isNone, wrong}
-use Rattle.rules.proofs.BoolLaws.{and-left, and-right, or-either}
+use Rattle.rules.specs.Calls.{setInputs, setPending, orNothing, Asked, write, inputs, pending, run, service, ack, levelled, actOf, badSize, isNone, wrong}
+use Rattle.rules.proofs.BoolLaws.{and-left, and-right, or-either, neither}
+use Rattle.rules.proofs.CallLaws.{passed}
 use Rattle.rules.proofs.FieldLaws.{holds-fits}
 use Rattle.rules.proofs.Steps.{putting, in-table, fetch-inside}
 use Rattle.rules.proofs.Each.{Rights, Each, at-done, at-endless, at-stage, at-fetch, at-store, at-ask, at-put, at-look, _>>=_, _>>_, each-fetch, each-store, each-ask, each-asked, each-put, each-change, each-look, each-when, each-cond, Proper, proper-store, proper-put, fetched-length}
@@ -402,16 +403,6 @@ inputs-guarded standing l0 l1 l2 = do
   asking ← requesting-guarded
   each-change KICK _ tt
 
--- checks in a row that find nothing wrong: neither does the first, nor those after it
-pub passed : (b : Bool) (n next : ℕ) → check b (suc n) next ≡ 0 → (b ≡ false) × (next ≡ 0)
-unfolding check
-passed true n next e = absurd (omega arith)
-passed false n next e = (refl, e)
-
-pub neither : (a b : Bool) → a || b ≡ false → a ≡ false
-neither true b e = e
-neither false b e = refl
-
 size-legal : (size : ℕ) → badSize size ≡ false → legal table size ≡ true
 unfolding badSize legal
 size-legal size e =
@@ -433,7 +424,7 @@ call-guarded base mem journal used (write address size v) e =
     let three = passed (isNone (writeAt address size v)) 2 _ (two .1) in
     let four = passed (pastTable address size || pastWord address size) 3 _ (three .1) in
     levelled-guarded _
-    (write-guarded (blockOf address) (offsetOf address) size v (size-legal size (one .0)) (not-past address size (neither _ _ (four .0))))
+    (write-guarded (blockOf address) (offsetOf address) size v (size-legal size (one .0)) (not-past address size (neither _ _ (four .0) .0)))
 call-guarded base mem journal used (inputs standing l0 l1 l2) e = levelled-guarded _ (inputs-guarded standing l0 l1 l2)
 call-guarded base mem journal used (pending ch count) e = levelled-guarded _ (each-put (PENDING ch) count tt)
 call-guarded base mem journal used (run now pace) e = levelled-guarded _ (run-guarded now pace)

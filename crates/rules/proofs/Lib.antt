@@ -6,6 +6,7 @@ pub mod BoolLaws
 pub mod PartLaws
 pub mod FieldLaws
 pub mod Same
+pub mod Numbers
 pub mod Steps
 pub mod Keeps
 pub mod Typed
@@ -15,6 +16,12 @@ pub mod Free
 pub mod Took
 pub mod History
 pub mod Standing
+pub mod Lasts
+pub mod CallLaws
+pub mod Through
+pub mod Bench
+pub mod BenchWorlds
+pub mod Demand3
 pub mod Each
 pub mod Leads
 pub mod PassLaws
