@@ -163,7 +163,7 @@ spot-bits (TAKEN i) h = getD-replicate 192 i 64 0 h
 not-three : (n : ℕ) → n ≡ 3 → (n ≡ 3 → ⊥) → ⊥
 not-three n e h = h e
 
-in-three : {A : Type 0} (P : List A → Type 0) → ((a b c : A) → P (a ∷ b ∷ c ∷ [])) → (l : List A) → length l ≡ 3 → P l
+pub in-three : {A : Type 0} (P : List A → Type 0) → ((a b c : A) → P (a ∷ b ∷ c ∷ [])) → (l : List A) → length l ≡ 3 → P l
 in-three P h [] e = absurd (not-three 0 e (λ k. omega arith))
 in-three P h (a ∷ []) e = absurd (not-three 1 e (λ k. omega arith))
 in-three P h (a ∷ b ∷ []) e = absurd (not-three 2 e (λ k. omega arith))

@@ -18,6 +18,7 @@ pub mod History
 pub mod Standing
 pub mod Lasts
 pub mod CallLaws
+pub mod Told
 pub mod Through
 pub mod Bench
 pub mod BenchWorlds
@@ -27,5 +28,7 @@ pub mod Leads
 pub mod PassLaws
 pub mod Guards
 pub mod Ends
+pub mod Grown
+pub mod Spares
 pub mod Marked
 pub mod Traps

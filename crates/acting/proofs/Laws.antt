@@ -1,0 +1,154 @@
+-- The ends of calls, by cases. Assumes nothing.
+use mathlib.Core.Bool.{Bool, true, false}
+use mathlib.Core.List.{List, [], _++_, append-nil}
+use mathlib.Core.Path.{_≡_, refl, sym, ap, _∙_, subst}
+use Prim.Native.Nat.{ℕ, _-_, _≤_, min}
+use native.Mathlib.Omega.{arith}
+use lib.Dec.{leb}
+use lib.ListN.{length, take, drop, replicate, length-drop, length-take, take-append-drop, drop-of-length-le}
+use lib.Seq.{take-all, take-take, drop-length, length-take-le}
+use borrow.Author.Tests.{leb-true, leb-false}
+use Rattle.rules.specs.Act.{Act, done, _>>_}
+use Rattle.rules.specs.Calls.{Told, told, toldActed, toldAfter, refusalNumber, worldOf, levelled}
+use Rattle.rules.specs.Carry.{World, Out, After, unmade, ok, no, cleared, go, leave, perform}
+use Rattle.rules.specs.Fields.{fieldsOf}
+use Rattle.rules.specs.Lines.{relevel}
+use Rattle.rules.specs.declared.Acted.{Acted}
+use Rattle.rules.specs.declared.Device.{Device}
+use Rattle.rules.specs.declared.Heard.{Heard}
+use Rattle.rules.specs.declared.Heard.the-variants as Heard
+use Rattle.rules.specs.declared.Refusal.{Refusal}
+use Rattle.rules.specs.declared.Verdict.{Verdict}
+use Rattle.rules.specs.declared.Verdict.the-variants as Verdict
+use Rattle.rules.proofs.Each.{Each, Properly, typed-proper}
+use Rattle.rules.proofs.Grown.{Longer, Grown, go-grows, journal-grows}
+use Rattle.rules.proofs.Keeps.{AtEnd}
+use Rattle.rules.proofs.Spares.{sparing, SameArrays, spares, levelled-spares}
+use Rattle.rules.proofs.Steps.{then-ok, then-no}
+use Rattle.rules.proofs.Typed.{Typed}
+use Rattle.flow.specs.Does.{Answers, Does}
+use Rattle.flow.specs.Worlds.{walked}
+use Rattle.flow.specs.declared.Walk.{Walk}
+use Rattle.flow.specs.declared.Walk.the-variants.{On, Off}
+use Rattle.closing.specs.Closes.{closed, Closes, SparedOf}
+use Rattle.closing.specs.declared.Noted.{Noted}
+use Rattle.closing.specs.declared.Noted.the-variants.{At, Full}
+use Rattle.closing.specs.declared.Touched.{Touched}
+use Rattle.closing.proofs.Group.{closes}
+use Rattle.acting.specs.Ending.{heardBy, toldWith, Since, touchedBy}
+
+-- ---- refused on the way
+
+pub back-again : (d : Device) (why : Refusal) (used : ℕ) (w staging j₀ j j′ : List ℕ) (h : Heard) → Since used j₀ j
+    → j′ ≡ take used j ++ replicate (length j - used) 0 ++ drop (length j) j
+    → toldWith h (record { verdict = Verdict.Refused why; used = used; device = d }) w staging j′ ≡ toldAfter staging used (unmade (refusalNumber why) (cleared (worldOf d w j₀ used)))
+unfolding toldAfter cleared heardBy
+back-again d why used w staging j₀ j j′ h s e =
+    ap (λ (l : List ℕ). told (refusalNumber why) Heard.Nothing d w staging l used)
+    (e ∙ rw (drop-length j, append-nil, length-drop used j₀, s .front, s .long) refl)
+
+-- ---- accepted, or no room for the last records
+
+module _ (d e : Device) {n : Noted} (used at : ℕ) (w staging j₀ j j′ : List ℕ) (h : Heard) (s : Since used j₀ j) (p : used ≤ at) (q : at ≤ length j)
+    (ends : Closes n (fieldsOf d) (fieldsOf e) used at j j′)
+  where
+    closed-so : closed n h (worldOf d w j₀ used) e w j′ ≡ leave (worldOf d w j₀ used) (ok h (worldOf e w j at))
+    closed-so = closes ends h (worldOf d w j₀ used) e w refl refl (length-take-le used j₀ (omega (arith, s .long)))
+
+    pub since-then : Since used j₀ j′
+    since-then = record {
+      front = s .front ∙ sym (take-take used at j p) ∙ ap (take used) (sym (ends .front)) ∙ take-take used at j′ p;
+      long = s .long ∙ sym (ends .long);
+    }
+
+    pub ended-full : {x : Told} → n ≡ Full → x ≡ toldAfter staging used (unmade 11 (cleared (worldOf d w j₀ used)))
+        → x ≡ toldAfter staging used (leave (worldOf d w j₀ used) (ok h (worldOf e w j at)))
+    unfolding closed
+    ended-full f t = t ∙ ap (toldAfter staging used) (rw f at closed-so)
+
+    pub ended-at : {end u : ℕ} → n ≡ At end → u ≡ min end (length j′)
+        → toldWith h (record { verdict = Verdict.Accepted; used = u; device = e }) w staging j′ ≡ toldAfter staging used (leave (worldOf d w j₀ used) (ok h (worldOf e w j at)))
+    unfolding closed toldAfter heardBy
+    ended-at {end} {u} f g =
+        ap (λ (l : List ℕ). told 0 h e w staging l u) (sym (take-append-drop end j′))
+        ∙ ap (told 0 h e w staging (take end j′ ++ drop end j′)) (g ∙ sym (length-take end j′))
+        ∙ ap (toldAfter staging used) (rw f at closed-so)
+
+-- ---- an end past the last byte
+
+pub world-least : (e : Device) (w j : List ℕ) (at : ℕ) {n : ℕ} → n ≡ min at (length j) → worldOf e w j n ≡ worldOf e w j at
+world-least e w j at {n} m = by (leb at (length j)) refl
+  where
+    by : (t : Bool) → leb at (length j) ≡ t → worldOf e w j n ≡ worldOf e w j at
+    by true t = let f = leb-true at (length j) t in let g : n ≡ at = omega arith in rw g refl
+    by false t =
+        let f = leb-false at (length j) t in
+        rw (take-all n j (omega arith), take-all at j (omega arith), drop-of-length-le j {i = n} (omega arith), drop-of-length-le j {i = at} (omega arith)) refl
+
+-- ---- how far an act came, and lines and level after it
+
+module _ (base staging : ℕ) (act : Act (Unit {0})) (d e : Device) (w j₀ j : List ℕ) (used : ℕ) (k : Walk)
+    (goes : walked k e w j ≡ go base staging act (worldOf d w j₀ used))
+  where
+    grown : AtEnd (Grown (worldOf d w j₀ used)) (walked k e w j)
+    grown = rw goes (go-grows base staging (worldOf d w j₀ used) act)
+
+    pub grown-on : {at : ℕ} → k ≡ On at → used ≤ length j₀ → Longer used at j₀ j
+    unfolding walked
+    grown-on {at} f h = journal-grows d e w w j₀ j used at h (rw f at grown)
+
+    pub grown-off : {why : Refusal} {at : ℕ} → k ≡ Off why at → used ≤ length j₀ → Longer used at j₀ j
+    unfolding walked
+    grown-off {at = at} f h = journal-grows d e w w j₀ j used at h (rw f at grown)
+
+    pub levelled-on : {at : ℕ} {e′ : Device} → k ≡ On at → Does relevel e e′ → go base staging (levelled act) (worldOf d w j₀ used) ≡ ok Heard.Nothing (worldOf e′ w j at)
+    unfolding walked levelled Answers go
+    levelled-on {at} f h =
+        let went : go base staging act (worldOf d w j₀ used) ≡ ok tt (worldOf e w j at) = sym goes ∙ rw f refl in
+        then-ok base staging act (relevel >> done Heard.Nothing) (worldOf d w j₀ used) went
+        ∙ then-ok base staging relevel (done Heard.Nothing) (worldOf e w j at) (h base staging w (take at j) (drop at j))
+
+    pub levelled-off : {why : Refusal} {at : ℕ} → k ≡ Off why at → go base staging (levelled act) (worldOf d w j₀ used) ≡ no (refusalNumber why) (worldOf e w j at)
+    unfolding walked levelled
+    levelled-off {why} {at} f =
+        let went : go base staging act (worldOf d w j₀ used) ≡ no (refusalNumber why) (worldOf e w j at) = sym goes ∙ rw f refl in
+        then-no base staging act (relevel >> done Heard.Nothing) (worldOf d w j₀ used) went
+
+pub since : {used at : ℕ} {j₀ j : List ℕ} → Longer used at j₀ j → Since used j₀ j
+since l = record { front = sym (l .front); long = sym (l .long) }
+
+-- ---- what an act touches
+
+pub spared : (t : Touched) {A : Type 0} (m : Act A) (a : A) (d : Device) (u f : List ℕ) (v : World) → Typed d → Each (sparing (touchedBy t)) m
+    → go 0 0 m (record { now = record { mem = []; dev = d }; used = u; free = f }) ≡ ok a v → SparedOf t d (v .now .dev)
+spared t {A} m a d u f v g each e =
+    let s : Properly (λ x. SameArrays (touchedBy t) d (x .now .dev)) v =
+    subst (λ (o : Out A). AtEnd (Properly (λ x. SameArrays (touchedBy t) d (x .now .dev))) o) e
+    (spares 0 0 (touchedBy t) each (record { now = record { mem = []; dev = d }; used = u; free = f }) (typed-proper d g)) in
+    record {
+      same-busy = s .1 .busy-is;
+      same-majors = s .1 .majors-is;
+      same-pending = s .1 .pending-is;
+      same-levels = λ q. record { first = s .1 .levels-are q 0; second = s .1 .levels-are q 1; third = s .1 .levels-are q 2 };
+      same-taken = s .1 .taken-is;
+    }
+
+-- ---- the whole call
+
+pub heard-nothing : (v : Verdict) → heardBy v Heard.Nothing ≡ Heard.Nothing
+unfolding heardBy
+heard-nothing Verdict.Accepted = refl
+heard-nothing (Verdict.Refused r) = refl
+
+module _ (r : Acted) (d : Device) (used : ℕ) (act : Act (Unit {0})) (base : ℕ) (w staging j₀ j′ : List ℕ) where
+  pub settled : {v : World} → go base (length staging) (levelled act) (worldOf d w j₀ used) ≡ ok Heard.Nothing v
+      → toldWith Heard.Nothing r w staging j′ ≡ toldAfter staging used (leave (worldOf d w j₀ used) (ok Heard.Nothing v))
+      → toldActed r w staging j′ ≡ toldAfter staging used (perform base (length staging) (levelled act) (worldOf d w j₀ used))
+  unfolding perform
+  settled e t = rw e (rw (heard-nothing (r .verdict)) at t)
+
+  pub settled-not : {n : ℕ} {v : World} → go base (length staging) (levelled act) (worldOf d w j₀ used) ≡ no n v
+      → toldWith Heard.Nothing r w staging j′ ≡ toldAfter staging used (unmade n (cleared (worldOf d w j₀ used)))
+      → toldActed r w staging j′ ≡ toldAfter staging used (perform base (length staging) (levelled act) (worldOf d w j₀ used))
+  unfolding perform leave
+  settled-not e t = rw e (rw (heard-nothing (r .verdict)) at t)

@@ -1,0 +1,88 @@
+// The end of a call that is an act: refused before anything is done, refused on the way, or accepted.
+use closing::Noted;
+use closing::Touched;
+use dma_commands::Reached;
+use flow::Walk;
+use rules::Acted;
+use rules::Device;
+use rules::Refusal;
+use rules::Verdict;
+ghost use mathlib.Core.Path.{_≡_};
+ghost use Prim.Native.Nat.{_≤_, min};
+ghost use lib.ListN.{length};
+ghost use Rattle.rules.specs.declared.Verdict.the-variants as Verdict;
+ghost use Rattle.closing.specs.Closes.{SparedOf};
+ghost use Rattle.acting.specs.Ending.{TakenBack, Ends, Began, Settles};
+
+fn least(a: usize, b: usize) -> usize
+    ensures { λ r. ⌜ r ≡ min a b ⌝ }
+{
+    if a < b { a } else { b }
+}
+
+// "Each gives its number and leaves window, device and used journal as at entry."
+pub fn refused(d: Device, why: Refusal, used: usize) -> Acted
+    ensures { λ r. ⌜ r ≡ record { verdict = Verdict.Refused why; used = used; device = d } ⌝ }
+{
+    Acted {
+        verdict: Verdict::Refused(why),
+        used,
+        device: d,
+    }
+}
+
+// "Journal bytes past the used length: zero to the end after [..] 11 elsewhere."
+fn taken_back(d: Device, why: Refusal, journal: &mut [u8], used: usize) -> Acted
+    requires { ⌜ used ≤ length (now journal) ⌝ }
+    ensures { λ r. ⌜ TakenBack d why used r (now (journal .entry)) (now (journal .exit)) ⌝ }
+{
+    let len = journal.len();
+    journal::clear(journal, used, len);
+    refused(d, why, used)
+}
+
+// The end of an act that began with `d` and came to `e`: the fields that differ, the end record, and what the call answers. (An end past the
+// journal's last byte stands for the last byte's: a world tells the two not apart, and so no contract does.)
+pub fn finish(
+    d: Device,
+    e: Device,
+    touched: Touched,
+    journal: &mut [u8],
+    used: usize,
+    at: usize,
+) -> Acted
+    requires { ⌜ (used ≤ at) × (at ≤ length (now journal)) × SparedOf touched d e ⌝ }
+    ensures { λ r. ⌜ Ends d e used at r (now (journal .entry)) (now (journal .exit)) ⌝ }
+{
+    let n = closing::end_act(d, e, touched, journal, used, at);
+    let Noted::At(end) = n else {
+        return taken_back(d, Refusal::Room, journal, used);
+    };
+    let len = journal.len();
+    Acted {
+        verdict: Verdict::Accepted,
+        used: least(end, len),
+        device: e,
+    }
+}
+
+// "Each accepted act but acknowledge ends by working out lines and level anew."
+pub fn settle(d: Device, s: Reached, touched: Touched, journal: &mut [u8], used: usize) -> Acted
+    requires { ⌜ Began d s touched used (now journal) ⌝ }
+    ensures { λ r. ⌜ Settles d s used r (now (journal .entry)) (now (journal .exit)) ⌝ }
+{
+    let w = s.walk;
+    let e = s.device;
+    let len = journal.len();
+    match w {
+        Walk::On(at) => finish(
+            d,
+            controllers::update_irq(e),
+            touched,
+            journal,
+            used,
+            least(at, len),
+        ),
+        Walk::Off(why, _) => taken_back(d, why, journal, used),
+    }
+}

@@ -1,0 +1,85 @@
+-- A take-back by cases: each refusal, and the call that is accepted. Assumes nothing.
+use mathlib.Core.Bool.{true, false, not, _||_}
+use mathlib.Core.List.{List, [], _++_, append-assoc}
+use mathlib.Core.Path.{_≡_, sym, _∙_}
+use Prim.Native.Nat.{ℕ, _-_, _%_, _^_, _≤_}
+use native.Mathlib.Omega.{arith}
+use borrow.Author.Tests.{ltb-false, eqb-true, not-false}
+use lib.Dec.{eqb, ltb}
+use lib.ListN.{length, take, drop, replicate, take-append-drop}
+use lib.Seq.{length-take-le, take-take}
+use Rattle.rules.specs.Calls.{toldActed, worldOf, badWindow, badJournal, check, wrongBack, toldAfter, heardNothing, told, afterBack}
+use Rattle.rules.specs.Carry.{unmade, undo}
+use Rattle.rules.specs.TakeBack.{decodeAll, takeBack}
+use Rattle.rules.specs.declared.Acted.{Acted}
+use Rattle.rules.specs.declared.Device.{Device}
+use Rattle.rules.specs.declared.Heard.the-variants as Heard
+use Rattle.rules.specs.declared.Refusal.the-variants as Refusal
+use Rattle.rules.specs.declared.Verdict.the-variants as Verdict
+use Rattle.rules.proofs.BoolLaws.{neither}
+use Rattle.rules.proofs.Back.{take-none}
+use Rattle.back.specs.Standing.{machine, Finds, Sound}
+use Rattle.back.specs.declared.Standing.{Standing}
+use Rattle.back.specs.declared.Standing.the-variants.{Group, Damaged}
+
+module _ (len used : ℕ) (fine : badJournal len used ≡ false) where
+  pub used-fits : used ≤ len
+  unfolding badJournal
+  used-fits = ltb-false len used (neither (ltb (2 ^ 28) len || not (eqb (used % 16) 0)) (ltb len used) fine .1)
+
+  -- so some bytes are at least 16
+  pub used-whole : used % 16 ≡ 0
+  unfolding badJournal
+  used-whole =
+      eqb-true (used % 16) 0
+      (not-false (eqb (used % 16) 0)
+      (neither (ltb (2 ^ 28) len) (not (eqb (used % 16) 0)) (neither (ltb (2 ^ 28) len || not (eqb (used % 16) 0)) (ltb len used) fine .0) .1))
+
+-- the answer r, with window and journal as they are then
+module _ (base : ℕ) (d : Device) (w j : List ℕ) (used : ℕ) where
+  pub bad-window : {r : Acted} → badWindow base (length w) ≡ true → r ≡ record { verdict = Verdict.Refused Refusal.Window; used = used; device = d }
+      → toldActed r w [] j ≡ afterBack base d w j used
+  unfolding afterBack wrongBack check
+  bad-window e h = rw (h, e, afterBack)
+
+  module _ (window-fine : badWindow base (length w) ≡ false) where
+    pub bad-journal : {r : Acted} → badJournal (length j) used ≡ true → r ≡ record { verdict = Verdict.Refused Refusal.Journal; used = used; device = d }
+        → toldActed r w [] j ≡ afterBack base d w j used
+    unfolding afterBack wrongBack check
+    bad-journal e h = rw (h, window-fine, e, afterBack)
+
+    module _ (journal-fine : badJournal (length j) used ≡ false) where
+      tested : afterBack base d w j used ≡ toldAfter [] used (heardNothing (takeBack base (worldOf d w j used)))
+      unfolding afterBack wrongBack check
+      tested = rw (window-fine, journal-fine, afterBack)
+
+      unmade-as : (n : ℕ) → takeBack base (worldOf d w j used) ≡ unmade n (worldOf d w j used) → told n Heard.Nothing d w [] j used ≡ afterBack base d w j used
+      unfolding toldAfter heardNothing
+      unmade-as n e = sym (tested ∙ rw (e, take-append-drop used j))
+
+      pub nothing-stands : {r : Acted} → used ≡ 0 → r ≡ record { verdict = Verdict.Refused Refusal.NothingStands; used = used; device = d }
+          → toldActed r w [] j ≡ afterBack base d w j used
+      nothing-stands z h = rw h (unmade-as 12 (take-none base (worldOf d w j used) (rw z)))
+
+      -- what was found to stand is s
+      module _ (long : length (d .table) ≡ 2048) {s : Standing} (found : Finds base w (take used j) s) where
+        pub is-damaged : {r : Acted} → s ≡ Damaged → r ≡ record { verdict = Verdict.Refused Refusal.Damaged; used = used; device = d }
+            → toldActed r w [] j ≡ afterBack base d w j used
+        is-damaged e h = rw h (unmade-as 13 ((rw e at found) d (drop used j) long))
+
+        pub accepted : {from n : ℕ} {after : Device} {w′ j′ : List ℕ} → s ≡ Group from n
+            → machine w′ after ≡ undo base (decodeAll n (drop from (take used j))) (machine w d)
+            → j′ ≡ take from j ++ replicate (used - from) 0 ++ drop used j
+            → told 0 Heard.Nothing after w′ [] j′ from ≡ afterBack base d w j used
+        unfolding toldAfter heardNothing
+        accepted {from} e undone cleared =
+            let group = rw e at found in
+            let all : length (take used j) ≡ used = length-take-le used j (used-fits (length j) used journal-fine) in
+            let some : from ≤ used = omega (arith, group .0 .long) in
+            let kept : length (take from (take used j)) ≡ from = length-take-le from (take used j) (omega arith) in
+            let joined = append-assoc (take from j) (replicate (used - from) 0) (drop used j) in
+            rw cleared (sym (tested ∙ rw (group .1 d (drop used j) long, ← undone, kept, all, take-take from used j some, joined)))
+
+-- of a group that stands the bytes are there, and it is sound
+pub group-stands : {base : ℕ} {w used : List ℕ} {s : Standing} {from n : ℕ} → Finds base w used s → s ≡ Group from n → Sound base w used from n
+group-stands found e = (rw e at found) .0

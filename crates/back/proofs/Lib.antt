@@ -1,0 +1,5 @@
+pub mod Widths
+pub mod FindLaws
+pub mod UndoLaws
+pub mod CallLaws
+pub mod Unique

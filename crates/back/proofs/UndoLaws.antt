@@ -1,0 +1,152 @@
+-- One sound record undone, by its kind; a group's records undone in turn, last to first. Assumes nothing.
+use mathlib.Core.Bool.{true, _&&_, false≢true}
+use mathlib.Core.List.{List}
+use mathlib.Core.Path.{_≡_, refl, sym, ap, _∙_}
+use Prim.Native.Nat.{ℕ, zero, suc, _+_, _-_, _*_, _^_, _≤_, _<_}
+use native.Mathlib.Omega.{arith}
+use borrow.Author.Tests.{leb-true}
+use lib.Dec.{eqb, leb, ltb}
+use lib.ListN.{length, take, drop}
+use lib.Seq.{drop-drop}
+use Rattle.rules.specs.Act.{Space, window, table}
+use Rattle.rules.specs.Bytes.{number, bytes, part, splice}
+use Rattle.rules.specs.Carry.{Machine, stoodIn, legal, there, bytesOf, withBytesOf, withDevice, indexOf, stored, undoRec, undo}
+use Rattle.rules.specs.Fields.{fieldAt, fitsSome, withNumber}
+use Rattle.rules.specs.TakeBack.{kind, width, place, value, marked, soundStore, soundField, soundKind, sound, allSound, recOf, decode, decodeAll}
+use Rattle.rules.specs.With.{withTable}
+use Rattle.rules.specs.declared.Device.{Device}
+use Rattle.rules.proofs.BoolLaws.{and-left, and-right}
+use Rattle.rules.proofs.BytesLaws.{getD-part, part-part}
+use Rattle.rules.proofs.Cut.{part-cut}
+use Rattle.journal.specs.Places.{holding}
+use Rattle.scan.proofs.HeadLaws.{number-one}
+use Rattle.scan.proofs.Laws.{sound-same, table-holding}
+use Rattle.back.specs.Standing.{machine}
+
+-- ---- one record: what the code reads of it, and that it is sound
+
+store-legal : (base : ℕ) (m : Machine) (sp : Space) (n a v : ℕ) → soundStore base m sp n a v ≡ true → (legal sp n ≡ true) × (there base sp a n m ≡ true)
+unfolding soundStore
+store-legal base m sp n a v e =
+    let b : legal sp n && there base sp a n m ≡ true = and-left (legal sp n && there base sp a n m) (ltb v (256 ^ n)) e in
+    (and-left (legal sp n) (there base sp a n m) b, and-right (legal sp n) (there base sp a n m) b)
+
+module _ (base : ℕ) (w j : List ℕ) (at : ℕ) {k n a v : ℕ}
+    (kind-is : k ≡ number (part j (at + 2) 1)) (width-is : n ≡ number (part j (at + 3) 1)) (place-is : a ≡ number (part j (at + 4) 4)) (value-is : v ≡ number (part j (at + 8) 8))
+  where
+    kind-read : kind (part j at 16) ≡ k
+    kind-read = getD-part j at 16 2 (omega arith) ∙ sym (kind-is ∙ number-one j (at + 2))
+
+    width-read : width (part j at 16) ≡ n
+    width-read = getD-part j at 16 3 (omega arith) ∙ sym (width-is ∙ number-one j (at + 3))
+
+    place-read : place (part j at 16) ≡ a
+    unfolding place
+    place-read = ap number (part-part j at 16 4 4 (omega arith)) ∙ sym place-is
+
+    value-read : value (part j at 16) ≡ v
+    unfolding value
+    value-read = ap number (part-part j at 16 8 8 (omega arith)) ∙ sym value-is
+
+    record-is : decode (part j at 16) ≡ recOf k n a v
+    unfolding decode
+    record-is = rw (kind-read, width-read, place-read, value-read)
+
+    module _ (fair : sound base (holding w) (part j at 16) ≡ true) where
+      kind-fair : soundKind base (holding w) k n a v ≡ true
+      unfolding sound
+      kind-fair = rw (kind-read, width-read, place-read, value-read) at (and-right (marked (part j at 16)) (soundKind base (holding w) (kind (part j at 16)) (width (part j at 16)) (place (part j at 16)) (value (part j at 16))) fair)
+
+      pub memory-fair : k ≡ 0 → (base ≤ a) × (a + n ≤ base + length w) × (legal window n ≡ true)
+      unfolding soundKind there holding
+      memory-fair e =
+          let s = store-legal base (holding w) window n a v (rw e at kind-fair) in
+          (leb-true base a (and-left (leb base a) (leb (a + n) (base + length w)) (s .1)), leb-true (a + n) (base + length w) (and-right (leb base a) (leb (a + n) (base + length w)) (s .1)), s .0)
+
+      pub table-fair : k ≡ 1 → (a + n ≤ 2048) × (legal table n ≡ true)
+      unfolding soundKind there
+      table-fair e =
+          let s = store-legal base (holding w) table n a v (rw e at kind-fair) in
+          (omega (arith, table-holding w, leb-true (a + n) (length (holding w .dev .table)) (s .1)), s .0)
+
+      pub field-fair : (k ≡ 0 → ⊥) → (k ≡ 1 → ⊥) → fitsSome (fieldAt a) v ≡ true
+      unfolding soundKind soundField
+      field-fair n₀ n₁ = by k refl kind-fair
+        where
+          by : (i : ℕ) → k ≡ i → soundKind base (holding w) i n a v ≡ true → fitsSome (fieldAt a) v ≡ true
+          by zero e s = absurd (n₀ e)
+          by (suc zero) e s = absurd (n₁ e)
+          by (suc (suc zero)) e s = and-right (eqb n 8) (fitsSome (fieldAt a) v) s
+          by (suc (suc (suc i))) e s = absurd (false≢true s)
+
+    -- undone, by its kind
+    module _ (d : Device) where
+      pub memory-undone : k ≡ 0 → {w′ : List ℕ} → w′ ≡ splice w (a - base) (bytes n v) → machine w′ d ≡ undoRec base (decode (part j at 16)) (machine w d)
+      unfolding recOf undoRec stored withBytesOf bytesOf indexOf
+      memory-undone e h = rw (record-is, e, h)
+
+      pub table-undone : k ≡ 1 → {r : Device} → r ≡ withTable d (splice (d .table) a (bytes n v)) → machine w r ≡ undoRec base (decode (part j at 16)) (machine w d)
+      unfolding recOf undoRec stored withBytesOf bytesOf indexOf
+      table-undone e h = rw (record-is, e, h)
+
+      pub field-undone : (k ≡ 0 → ⊥) → (k ≡ 1 → ⊥) → {r : Device} → r ≡ withNumber a v d → machine w r ≡ undoRec base (decode (part j at 16)) (machine w d)
+      unfolding recOf undoRec withDevice
+      field-undone n₀ n₁ h = rw (record-is, by k refl, h)
+        where
+          by : (i : ℕ) → k ≡ i → recOf i n a v ≡ stoodIn a v
+          by zero e = absurd (n₀ e)
+          by (suc zero) e = absurd (n₁ e)
+          by (suc (suc i)) e = refl
+
+-- ---- records in turn
+
+module _ (base : ℕ) where
+  -- of n + 1 records the last is undone first
+  last-first : (n : ℕ) (l : List ℕ) (m : Machine) → undo base (decodeAll (suc n) l) m ≡ undo base (decodeAll n l) (undoRec base (decode (take 16 (drop (n * 16) l))) m)
+  unfolding undo decodeAll
+  last-first zero l m = refl
+  last-first (suc n) l m =
+      ap (undoRec base (decode (take 16 l)))
+      (last-first n (drop 16 l) m
+      ∙ ap (λ (x : List ℕ). undo base (decodeAll n (drop 16 l)) (undoRec base (decode (take 16 x)) m)) (drop-drop (n * 16) 16 l ∙ ap (λ (i : ℕ). drop i l) further))
+    where
+      further : 16 + n * 16 ≡ suc n * 16
+      further = omega arith
+
+  each-sound : (m : Machine) (n : ℕ) (l : List ℕ) → allSound base m n l ≡ true → (i : ℕ) → i < n → sound base m (take 16 (drop (i * 16) l)) ≡ true
+  unfolding allSound
+  each-sound m zero l e i h = absurd (omega arith)
+  each-sound m (suc n) l e zero h = and-left (sound base m (take 16 l)) (allSound base m n (drop 16 l)) e
+  each-sound m (suc n) l e (suc i) h =
+      ap (λ (x : List ℕ). sound base m (take 16 x)) (sym (drop-drop (i * 16) 16 l ∙ ap (λ (p : ℕ). drop p l) further))
+      ∙ each-sound m n (drop 16 l) (and-right (sound base m (take 16 l)) (allSound base m n (drop 16 l)) e) i (omega arith)
+    where
+      further : 16 + i * 16 ≡ suc i * 16
+      further = omega arith
+
+  -- `count` records from `from` on
+  module _ (j : List ℕ) (from count : ℕ) (fits : from + count * 16 ≤ length j) where
+    record-at : (i : ℕ) → i < count → part j (from + i * 16) 16 ≡ take 16 (drop (i * 16) (drop from j))
+    record-at i h = part-cut j (from + i * 16) 16 (omega arith) ∙ ap (take 16) (sym (drop-drop (i * 16) from j))
+
+    -- each is sound, also in a window that has changed since, but is as long
+    pub still-sound : (w₀ w : List ℕ) → length w ≡ length w₀ → allSound base (holding w₀) count (drop from j) ≡ true
+        → (i : ℕ) → i < count → sound base (holding w) (part j (from + i * 16) 16) ≡ true
+    unfolding holding
+    still-sound w₀ w long e i h =
+        sound-same base (holding w₀) (holding w) long refl (part j (from + i * 16) 16)
+        ∙ ap (sound base (holding w₀)) (record-at i h)
+        ∙ each-sound (holding w₀) count (drop from j) e i h
+
+    -- the last `done` are undone: the next is the last that is left
+    pub undo-turn : (done : ℕ) → done < count → (m : Machine) {m′ : Machine} → m′ ≡ undoRec base (decode (part j (from + (count - done - 1) * 16) 16)) m
+        → undo base (decodeAll (count - (done + 1)) (drop from j)) m′ ≡ undo base (decodeAll (count - done) (drop from j)) m
+    undo-turn done more m e =
+        let n : ℕ = count - done - 1 in
+        let s : count - done ≡ suc n = omega arith in
+        let z : count - (done + 1) ≡ n = omega arith in
+        rw (s, z, e, record-at n (omega arith)) (sym (last-first n (drop from j) m))
+
+  pub undo-none : (n : ℕ) (l : List ℕ) (m : Machine) → n ≡ 0 → undo base (decodeAll n l) m ≡ m
+  unfolding undo decodeAll
+  undo-none n l m e = rw e

@@ -1,0 +1,88 @@
+-- `back::undo_record` meets its contract: each kind by itself. That the record is sound says that it can be undone. Assumes nothing.
+use Rattle.back.proofs.UndoLaws.{memory-fair, table-fair, field-fair, memory-undone, table-undone, field-undone}
+use borrow.Author.Needs.{needs}
+use Rattle.back.proofs.undo_record.Statement.{statement}
+use Rattle.back.proofs.undo_record.Tie as tie
+
+add-get1 : tie.Need-add-get1
+add-get1 c = search needs
+
+get1-requires : tie.Need-get1-requires
+get1-requires c κs = search needs
+
+add-get1-2 : tie.Need-add-get1-2
+add-get1-2 c = search needs
+
+get1-requires-2 : tie.Need-get1-requires-2
+get1-requires-2 c κs = search needs
+
+cast-width : tie.Need-cast-width
+cast-width c = search needs
+
+add-get4 : tie.Need-add-get4
+add-get4 c = search needs
+
+get4-requires : tie.Need-get4-requires
+get4-requires c κs = search needs
+
+add-get8 : tie.Need-add-get8
+add-get8 c = search needs
+
+get8-requires : tie.Need-get8-requires
+get8-requires c κs = search needs
+
+undo-memory-requires : tie.Need-undo-memory-requires
+undo-memory-requires c κs = memory-fair _ _ _ _ (c .before .before .before .before .before .get1 .ensures) (c .before .before .before .before .get12 .ensures) (c .before .before .before .get4 .ensures) (c .before .before .get8 .ensures) (c .before .before .before .before .before .before .before .before .pre .1) (c .before .match .keys1)
+
+cast-undo-table : tie.Need-cast-undo-table
+cast-undo-table c = search needs
+
+undo-table-requires : tie.Need-undo-table-requires
+undo-table-requires c κs = table-fair _ _ _ _ (c .before .before .before .before .get1 .ensures) (c .before .before .before .get12 .ensures) (c .before .before .get4 .ensures) (c .before .get8 .ensures) (c .before .before .before .before .before .before .before .pre .1) (c .match .keys2)
+
+cast-with-number : tie.Need-cast-with-number
+cast-with-number c = search needs
+
+with-number-requires : tie.Need-with-number-requires
+with-number-requires c κs =
+    let no = c .match .rest in
+    field-fair _ _ _ _ (c .before .before .before .before .get1 .ensures) (c .before .before .before .get12 .ensures) (c .before .before .get4 .ensures) (c .before .get8 .ensures) (c .before .before .before .before .before .before .before .pre .1) (no .0 .1) (no .1)
+
+same-length : tie.Need-same-length
+same-length c = search needs
+
+returns : tie.Need-returns
+returns c =
+    memory-undone _ _ _ _ (c .before .before .before .before .before .before .before .before .get1 .ensures) (c .before .before .before .before .before .before .before .get12 .ensures) (c .before .before .before .before .before .before .get4 .ensures) (c .before .before .before .before .before .get8 .ensures) _ (c .before .before .before .before .match .keys1) (c .before .before .undo-memory .ensures)
+
+returns-2 : tie.Need-returns-2
+returns-2 c =
+    table-undone _ _ _ _ (c .before .before .before .before .before .get1 .ensures) (c .before .before .before .before .get12 .ensures) (c .before .before .before .get4 .ensures) (c .before .before .get8 .ensures) _ (c .before .match .keys2) (c .undo-table .ensures)
+
+returns-3 : tie.Need-returns-3
+returns-3 c =
+    let no = c .before .match .rest in
+    field-undone _ _ _ _ (c .before .before .before .before .before .get1 .ensures) (c .before .before .before .before .get12 .ensures) (c .before .before .before .get4 .ensures) (c .before .before .get8 .ensures) _ (no .0 .1) (no .1) (c .with-number .ensures)
+
+pub undo-record-spec : {M : Type 1} → statement M
+undo-record-spec =
+    tie.close
+    (tie.spec
+    add-get1
+    get1-requires
+    add-get1-2
+    get1-requires-2
+    cast-width
+    add-get4
+    get4-requires
+    add-get8
+    get8-requires
+    undo-memory-requires
+    cast-undo-table
+    undo-table-requires
+    cast-with-number
+    with-number-requires
+    same-length
+    returns
+    returns-2
+    returns-3)

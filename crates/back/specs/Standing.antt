@@ -1,0 +1,42 @@
+-- The last standing group of a used journal, and what a take-back does with it. Assumes nothing.
+use mathlib.Core.Bool.{true}
+use mathlib.Core.List.{List, _++_}
+use mathlib.Core.Path.{_≡_}
+use Prim.Native.Nat.{ℕ, _+_, _-_, _*_}
+use lib.ListN.{length, take, drop, replicate}
+use Rattle.rules.specs.Carry.{Machine, World, made, unmade, undo}
+use Rattle.rules.specs.TakeBack.{allSound, decodeAll, takeBack}
+use Rattle.rules.specs.declared.Device.{Device}
+use Rattle.journal.specs.Places.{holding}
+use Rattle.back.specs.declared.Standing.{Standing}
+use Rattle.back.specs.declared.Standing.the-variants.{Group, Damaged}
+
+abbrev pub machine : List ℕ → Device → Machine
+machine w d = record { mem = w; dev = d }
+
+-- a world with this used journal
+abbrev pub standing : Machine → List ℕ → List ℕ → World
+standing m used free = record { now = m; used = used; free = free }
+
+-- a group of n records, from index `from` on, and its end, taken back: undone, the journal used as before it, zeros in its place
+abbrev pub takenBack : ℕ → World → ℕ → ℕ → World
+takenBack base u from n = record {
+  now = undo base (decodeAll n (drop from (u .used))) (u .now);
+  used = take from (u .used);
+  free = replicate (length (u .used) - from) 0 ++ u .free;
+}
+
+-- a sound group of n records before its end, from index `from` on: its bytes are all there
+pub record Sound (base : ℕ) (w used : List ℕ) (from n : ℕ) : Type 0 where
+  pub long : from + (n + 1) * 16 ≡ length used
+  pub sound : allSound base (holding w) n (drop from used) ≡ true
+
+-- what was found to stand last, in a window w and a used journal, and what it makes of a take-back. Of the table only its length counts
+abbrev pub Finds : ℕ → List ℕ → List ℕ → Standing → Type 0
+Finds base w used (Group from n) =
+    Sound base w used from n
+    × ((d : Device) (free : List ℕ) → length (d .table) ≡ 2048
+    → takeBack base (standing (machine w d) used free) ≡ made tt (takenBack base (standing (machine w d) used free) from n))
+Finds base w used Damaged =
+    (d : Device) (free : List ℕ) → length (d .table) ≡ 2048
+    → takeBack base (standing (machine w d) used free) ≡ unmade 13 (standing (machine w d) used free)

@@ -1,0 +1,126 @@
+-- Records one after the other: one by cases, a part's fields turn by turn, part after part. Assumes nothing.
+use mathlib.Core.Bool.{Bool, true, false}
+use mathlib.Core.List.{List, [], _∷_, _++_}
+use mathlib.Core.Path.{_≡_, refl, sym, ap, _∙_}
+use Prim.Native.Nat.{ℕ, suc, _+_, _-_, _/_, _≤_, _<_}
+use native.Mathlib.Nat.{add-suc, add-zero, suc-add, suc-inj, not-suc-le-zero, le-of-eq}
+use native.Mathlib.Numerals.{add-one}
+use native.Mathlib.Omega.{arith}
+use borrow.Author.Tests.{le-leb, lt-leb, eq-eqb, ne-eqb}
+use lib.Dec.{eqb}
+use lib.ListN.{length, getD, drop, drop-of-length-le}
+use lib.Seq.{drop-cons}
+use Rattle.rules.specs.Bytes.{splice}
+use Rattle.rules.specs.Carry.{Rec, stoodIn, line, lineOf, endLine, changed}
+use Rattle.closing.specs.Closes.{Noting, noting, add, addAll, addEnd}
+use Rattle.closing.specs.declared.Noted.{Noted}
+use Rattle.closing.specs.declared.Noted.the-variants.{At, Full}
+
+-- ---- one record, by cases
+
+module _ (l j : List ℕ) (at : ℕ) where
+  pub add-no : length j < at + 16 → noting Full j ≡ add l (noting (At at) j)
+  unfolding add
+  add-no h = rw (lt-leb _ _ h)
+
+  pub add-yes : at + 16 ≤ length j → {j′ : List ℕ} → j′ ≡ splice j at l → noting (At (at + 16)) j′ ≡ add l (noting (At at) j)
+  unfolding add
+  add-yes h f = rw (f, le-leb _ _ h)
+
+-- ---- records of fields: once one does not fit, nothing more happens
+
+pub all-full : (rs : List Rec) (j : List ℕ) → noting Full j ≡ addAll rs (noting Full j)
+unfolding addAll add
+all-full [] j = refl
+all-full (r ∷ rs) j = all-full rs j
+
+pub stays-full : (rs : List Rec) (j : List ℕ) {s : Noted} → s ≡ Full → noting Full j ≡ addAll rs (noting s j)
+stays-full rs j e = rw e (all-full rs j)
+
+-- the place that a match told
+pub told-at : (rs : List Rec) (at : ℕ) (j : List ℕ) {s : Noted} {o : Noting} → s ≡ At at → o ≡ addAll rs (noting (At at) j) → o ≡ addAll rs (noting s j)
+told-at rs at j e h = rw e h
+
+pub field-same : (n x y : ℕ) (s : Noting) → x ≡ y → s ≡ addAll (changed n (x ∷ []) (y ∷ [])) s
+unfolding addAll changed
+field-same n x y s e = rw (eq-eqb x y e, changed, addAll)
+
+pub field-other : (n x y : ℕ) (s : Noting) {s′ : Noting} → (x ≡ y → ⊥) → s′ ≡ add (line 2 8 n x) s → s′ ≡ addAll (changed n (x ∷ []) (y ∷ [])) s
+unfolding addAll changed lineOf
+field-other n x y s e h = rw (ne-eqb x y e, changed, addAll) h
+
+-- ---- lists in parts
+
+add-append : (rs qs : List Rec) (s : Noting) → addAll (rs ++ qs) s ≡ addAll qs (addAll rs s)
+unfolding addAll
+add-append [] qs s = refl
+add-append (r ∷ rs) qs s = add-append rs qs (add (lineOf r) s)
+
+changed-append : (n : ℕ) (ps xs qs ys : List ℕ) → length ps ≡ length qs → changed n (ps ++ xs) (qs ++ ys) ≡ changed n ps qs ++ changed (n + length ps) xs ys
+unfolding changed
+changed-append n [] xs [] ys e = ap (λ (k : ℕ). changed k xs ys) (sym (add-zero n))
+changed-append n [] xs (q ∷ qs) ys e = absurd (not-suc-le-zero (le-of-eq (sym e)))
+changed-append n (p ∷ ps) xs [] ys e = absurd (not-suc-le-zero (le-of-eq e))
+changed-append n (p ∷ ps) xs (q ∷ qs) ys e = by (eqb p q) refl (changed-append (suc n) ps xs qs ys (suc-inj e))
+  where
+    by : (t : Bool) → eqb p q ≡ t → changed (suc n) (ps ++ xs) (qs ++ ys) ≡ changed (suc n) ps qs ++ changed (suc n + length ps) xs ys
+        → changed n (p ∷ (ps ++ xs)) (q ∷ (qs ++ ys)) ≡ changed n (p ∷ ps) (q ∷ qs) ++ changed (n + suc (length ps)) xs ys
+    by true t tail = rw (t, changed, add-suc, ← suc-add) tail
+    by false t tail = rw (t, changed, add-suc, ← suc-add) (ap (λ (l : List Rec). stoodIn n p ∷ l) tail)
+
+-- a part, then the rest
+pub part-on : (n m : ℕ) (ps qs xs ys : List ℕ) (s : Noting) {s′ r : Noting} → length ps ≡ length qs → n + length ps ≡ m
+    → s′ ≡ addAll (changed n ps qs) s → r ≡ addAll (changed m xs ys) s′ → r ≡ addAll (changed n (ps ++ xs) (qs ++ ys)) s
+part-on n m ps qs xs ys s l p e f = f ∙ rw (changed-append n ps xs qs ys l, add-append, e, p)
+
+pub field-on : (n m x y : ℕ) (xs ys : List ℕ) (s : Noting) {s′ r : Noting} → n + 1 ≡ m
+    → s′ ≡ addAll (changed n (x ∷ []) (y ∷ [])) s → r ≡ addAll (changed m xs ys) s′ → r ≡ addAll (changed n (x ∷ xs) (y ∷ ys)) s
+field-on n m x y xs ys s p e f = part-on n m (x ∷ []) (y ∷ []) xs ys s refl p e f
+
+-- ---- the same lists
+
+changed-self : (n : ℕ) (xs : List ℕ) → changed n xs xs ≡ []
+unfolding changed
+changed-self n [] = refl
+changed-self n (x ∷ xs) = rw (eq-eqb x x refl, changed) (changed-self (suc n) xs)
+
+pub none-changed : (n : ℕ) (xs ys : List ℕ) (s : Noting) → xs ≡ ys → s ≡ addAll (changed n xs ys) s
+unfolding addAll
+none-changed n xs ys s e = rw (e, changed-self n ys)
+
+-- a part that no act changes, then the rest
+pub same-on : (n m : ℕ) (ps xs ys : List ℕ) (s : Noting) {r : Noting} → n + length ps ≡ m → r ≡ addAll (changed m xs ys) s → r ≡ addAll (changed n (ps ++ xs) (ps ++ ys)) s
+same-on n m ps xs ys s p f = part-on n m ps ps xs ys s refl p (none-changed n ps ps s refl) f
+
+-- ---- turn by turn, for elements of every width
+
+module _ (first : ℕ) (xs ys : List ℕ) where
+  pub turns-start : (s : Noting) → addAll (changed (first + 0) (drop 0 xs) (drop 0 ys)) s ≡ addAll (changed first xs ys) s
+  turns-start s = rw add-zero
+
+  module _ (i : ℕ) (s : Noting) {x y : ℕ} {r : Noted} {j : List ℕ} (h : i < length xs) (k : i < length ys) (p : x ≡ getD xs i 0) (q : y ≡ getD ys i 0)
+      (one : noting r j ≡ addAll (changed (first + i) (x ∷ []) (y ∷ [])) s)
+    where
+      then-rest : {o : Noting} → o ≡ addAll (changed (first + i + 1) (drop (suc i) xs) (drop (suc i) ys)) (noting r j) → o ≡ addAll (changed (first + i) (drop i xs) (drop i ys)) s
+      then-rest e = rw (drop-cons xs i 0 h, drop-cons ys i 0 k, ← p, ← q) (field-on (first + i) (first + i + 1) x y (drop (suc i) xs) (drop (suc i) ys) s refl one e)
+
+      pub turn : {at : ℕ} → r ≡ At at
+          → addAll (changed (first + (i + 1)) (drop (i + 1) xs) (drop (i + 1) ys)) (noting (At at) j) ≡ addAll (changed (first + i) (drop i xs) (drop i ys)) s
+      turn e = let n : first + (i + 1) ≡ first + i + 1 = omega arith in then-rest (rw (n, add-one i, e))
+
+      pub turn-full : r ≡ Full → noting Full j ≡ addAll (changed (first + i) (drop i xs) (drop i ys)) s
+      turn-full e = then-rest (stays-full _ j e)
+
+  pub turns-done : (i : ℕ) (s : Noting) → length xs ≤ i → s ≡ addAll (changed (first + i) (drop i xs) (drop i ys)) s
+  unfolding changed addAll
+  turns-done i s h = rw (drop-of-length-le xs h)
+
+-- ---- the end record, by cases
+
+pub end-full : (used : ℕ) (j : List ℕ) {s : Noted} → s ≡ Full → noting Full j ≡ addEnd used (noting s j)
+unfolding addEnd
+end-full used j e = rw e
+
+pub end-at : (used at n : ℕ) (j : List ℕ) {s : Noted} {o : Noting} → s ≡ At at → n ≡ (at - used) / 16 → o ≡ add (line 3 0 0 n) (noting (At at) j) → o ≡ addEnd used (noting s j)
+unfolding addEnd endLine
+end-at used at n j e f g = g ∙ rw (e, f)

@@ -1,0 +1,86 @@
+-- The fields in number order, part after part, with what no act changes between them. Assumes nothing.
+use mathlib.Core.List.{List, [], _∷_, _++_, append-assoc, append-nil}
+use mathlib.Core.Path.{_≡_, refl, sym, ap, _∙_}
+use Prim.Native.Nat.{ℕ, _+_}
+use native.Mathlib.Omega.{arith}
+use lib.ListN.{length, length-append, replicate}
+use Rattle.rules.specs.Carry.{changed}
+use Rattle.rules.specs.Fields.{joined, headOf, partsOf, fieldsOf, controller, masksOf}
+use Rattle.rules.specs.declared.Controller.{Controller}
+use Rattle.rules.specs.declared.Device.{Device}
+use Rattle.closing.specs.Closes.{Noting, noting, addAll, Notes, Part, scalarsIn, headIn, lowIn, highIn, fieldsIn, smallOf}
+use Rattle.closing.specs.declared.Noted.{Noted}
+use Rattle.closing.specs.declared.Small.{Small}
+use Rattle.closing.proofs.Laws.{part-on, same-on, none-changed}
+
+-- a part, then the rest
+rest-on : (s : Noted) (j : List ℕ) (n k m : ℕ) (b a xs ys : List ℕ) {t : Noted} {i : List ℕ} {o : Noting} → n + m ≡ k → Part m n b a s t j i
+    → o ≡ addAll (changed k xs ys) (noting t i) → o ≡ addAll (changed n (b ++ xs) (a ++ ys)) (noting s j)
+rest-on s j n k m b a xs ys e p f = part-on n k b a xs ys (noting s j) (p .long ∙ sym (p .long-now)) (ap (λ (l : ℕ). n + l) (p .long) ∙ e) (p .noted) f
+
+-- of a controller its masks, forced, lines and config, then the rest
+own-on : (s : Noted) (j : List ℕ) (n k : ℕ) (b a : Controller) (xs ys : List ℕ) {t : Noted} {i : List ℕ} {o : Noting} → n + 4 ≡ k → Notes n (masksOf b []) (masksOf a []) s t j i
+    → o ≡ addAll (changed k xs ys) (noting t i) → o ≡ addAll (changed n (masksOf b xs) (masksOf a ys)) (noting s j)
+own-on s j n k b a xs ys e p f = part-on n k (masksOf b []) (masksOf a []) xs ys (noting s j) refl e p f
+
+-- ---- 0 to 63, 0 to 255, from 256 on, all
+
+module _ (s : Noted) (j : List ℕ) (b a : Small) {t₁ t₂ t₃ r : Noted} {j₁ j₂ j₃ j′ : List ℕ} where
+  pub head-done : Notes 0 (scalarsIn b []) (scalarsIn a []) s t₁ j j₁
+      → Notes 16 (masksOf (controller (b .controllers) 0) []) (masksOf (controller (a .controllers) 0) []) t₁ t₂ j₁ j₂
+      → Notes 20 (masksOf (controller (b .controllers) 1) []) (masksOf (controller (a .controllers) 1) []) t₂ t₃ j₂ j₃
+      → Notes 24 (masksOf (controller (b .controllers) 2) []) (masksOf (controller (a .controllers) 2) []) t₃ r j₃ j′
+      → Notes 0 (headIn b) (headIn a) s r j j′
+  unfolding headIn scalarsIn
+  head-done e f g h =
+      part-on 0 10 (scalarsIn b []) (scalarsIn a []) _ _ (noting s j) refl refl e
+      (same-on 10 16 (replicate 6 0) _ _ (noting t₁ j₁) refl
+      (own-on t₁ j₁ 16 20 (controller (b .controllers) 0) (controller (a .controllers) 0) _ _ refl f
+      (own-on t₂ j₂ 20 24 (controller (b .controllers) 1) (controller (a .controllers) 1) _ _ refl g
+      (own-on t₃ j₃ 24 28 (controller (b .controllers) 2) (controller (a .controllers) 2) _ _ refl h
+      (none-changed 28 (replicate 36 0) (replicate 36 0) (noting r j′) refl)))))
+
+  pub low-done : {busy busy′ majors majors′ pending pending′ : List ℕ} → Notes 0 (headIn b) (headIn a) s t₁ j j₁ → Part 64 64 busy busy′ t₁ t₂ j₁ j₂
+      → Part 64 128 majors majors′ t₂ t₃ j₂ j₃ → Part 64 192 pending pending′ t₃ r j₃ j′ → Part 256 0 (lowIn b busy majors pending) (lowIn a busy′ majors′ pending′) s r j j′
+  unfolding lowIn headIn scalarsIn
+  low-done {busy} {busy′} {majors} {majors′} {pending} {pending′} e p q f = record {
+    long = long b busy majors pending (p .long) (q .long) (f .long);
+    long-now = long a busy′ majors′ pending′ (p .long-now) (q .long-now) (f .long-now);
+    noted =
+        part-on 0 64 (headIn b) (headIn a) _ _ (noting s j) refl refl e
+        (rest-on t₁ j₁ 64 128 64 busy busy′ _ _ refl p (rest-on t₂ j₂ 128 192 64 majors majors′ _ _ refl q (f .noted)));
+  }
+    where
+      long : (h : Small) (x y z : List ℕ) → length x ≡ 64 → length y ≡ 64 → length z ≡ 64 → length (headIn h ++ (x ++ (y ++ z))) ≡ 256
+      long h x y z p q f = omega (arith, length-append (headIn h) (x ++ (y ++ z)), length-append x (y ++ z), length-append y z)
+
+pub high-done : (s : Noted) (j : List ℕ) (b a : List Controller) (taken taken′ : List ℕ) {t₁ t₂ t₃ r : Noted} {j₁ j₂ j₃ j′ : List ℕ}
+    → Part 64 256 (controller b 0 .levels) (controller a 0 .levels) s t₁ j j₁ → Part 64 320 (controller b 1 .levels) (controller a 1 .levels) t₁ t₂ j₁ j₂
+    → Part 64 384 (controller b 2 .levels) (controller a 2 .levels) t₂ t₃ j₂ j₃ → Notes 576 taken taken′ t₃ r j₃ j′ → Notes 256 (highIn b taken) (highIn a taken′) s r j j′
+unfolding highIn
+high-done s j b a taken taken′ {t₁} {t₂} {t₃} {r} {j₁} {j₂} {j₃} e f g h =
+    rest-on s j 256 320 64 (controller b 0 .levels) (controller a 0 .levels) _ _ refl e
+    (rest-on t₁ j₁ 320 384 64 (controller b 1 .levels) (controller a 1 .levels) _ _ refl f
+    (rest-on t₂ j₂ 384 448 64 (controller b 2 .levels) (controller a 2 .levels) _ _ refl g
+    (same-on 448 576 (replicate 128 0) _ _ (noting t₃ j₃) refl h)))
+
+module _ (s : Noted) (j : List ℕ) (b a : Small) (busy busy′ majors majors′ pending pending′ taken taken′ : List ℕ) {t r : Noted} {i j′ : List ℕ} where
+  pub all-done : Part 256 0 (lowIn b busy majors pending) (lowIn a busy′ majors′ pending′) s t j i
+      → Notes 256 (highIn (b .controllers) taken) (highIn (a .controllers) taken′) t r i j′
+      → Notes 0 (fieldsIn b busy majors pending taken) (fieldsIn a busy′ majors′ pending′ taken′) s r j j′
+  unfolding fieldsIn
+  all-done p f = rest-on s j 0 256 256 (lowIn b busy majors pending) (lowIn a busy′ majors′ pending′) _ _ refl p f
+
+-- ---- a device that is whole
+
+head-in : (d : Device) → headOf d ≡ headIn (smallOf d)
+unfolding headOf headIn scalarsIn
+head-in d = refl
+
+in-two : (h x y z k l m o t : List ℕ) → joined (h ∷ x ∷ y ∷ z ∷ k ∷ l ∷ m ∷ o ∷ t ∷ []) ≡ (h ++ (x ++ (y ++ z))) ++ (k ++ (l ++ (m ++ (o ++ t))))
+unfolding joined
+in-two h x y z k l m o t = simp (append-assoc, append-nil)
+
+pub fields-in : (d : Device) → fieldsOf d ≡ fieldsIn (smallOf d) (d .busy) (d .majors) (d .pending) (d .taken)
+unfolding fieldsOf partsOf fieldsIn lowIn highIn
+fields-in d = in-two (headOf d) (d .busy) (d .majors) (d .pending) _ _ _ (replicate 128 0) (d .taken) ∙ rw (head-in d)

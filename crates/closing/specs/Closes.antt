@@ -1,0 +1,125 @@
+-- The end of an act: records one after the other, until one does not fit, and what then is there. Assumes nothing.
+use mathlib.Core.Bool.{Bool, cond, false}
+use mathlib.Core.List.{List, [], _∷_, _++_}
+use mathlib.Core.Path.{_≡_}
+use Prim.Native.Nat.{ℕ, _+_, _-_, _/_, _^_, _<_}
+use lib.Dec.{leb}
+use lib.ListN.{length, take, replicate}
+use Rattle.rules.specs.Bytes.{splice}
+use Rattle.rules.specs.Calls.{worldOf}
+use Rattle.rules.specs.Carry.{World, Rec, lineOf, endLine, changed, After, made, unmade, ok, cleared, leave}
+use Rattle.rules.specs.Fields.{controller, masksOf, fieldsOf}
+use Rattle.rules.specs.declared.Controller.{Controller}
+use Rattle.rules.specs.declared.Device.{Device}
+use Rattle.closing.specs.declared.Noted.{Noted}
+use Rattle.closing.specs.declared.Noted.the-variants.{At, Full}
+use Rattle.closing.specs.declared.Small.{Small}
+use Rattle.closing.specs.declared.Touched.{Touched}
+
+-- ---- records, one after the other
+
+-- where the next record goes, and the journal
+pub data Noting : Type 0 where
+  noting : Noted → List ℕ → Noting
+
+-- one record more; one that does not fit leaves the journal as it is
+unfoldable pub add : List ℕ → Noting → Noting
+add l (noting Full j) = noting Full j
+add l (noting (At at) j) = cond (leb (at + 16) (length j)) (noting (At (at + 16)) (splice j at l)) (noting Full j)
+
+unfoldable pub addAll : List Rec → Noting → Noting
+addAll [] s = s
+addAll (r ∷ rs) s = addAll rs (add (lineOf r) s)
+
+-- the end of the group that began at `used`
+unfoldable pub addEnd : ℕ → Noting → Noting
+addEnd used (noting Full j) = noting Full j
+addEnd used (noting (At at) j) = add (endLine ((at - used) / 16)) (noting (At at) j)
+
+-- ---- promises of the functions that add records; j and j′ are the journal at entry and at exit
+
+-- the fields from number n on, b at the act's entry and a now: one record for each that differs
+abbrev pub Notes : ℕ → List ℕ → List ℕ → Noted → Noted → List ℕ → List ℕ → Type 0
+Notes n b a s r j j′ = noting r j′ ≡ addAll (changed n b a) (noting s j)
+
+-- and there are m of them
+pub record Part (m n : ℕ) (b a : List ℕ) (s r : Noted) (j j′ : List ℕ) : Type 0 where
+  pub long : length b ≡ m
+  pub long-now : length a ≡ m
+  pub noted : Notes n b a s r j j′
+
+-- what is asked of the two arrays: numbers that a record's place can hold, and no change where none is said to be
+pub record Arrays (touched : Bool) (n : ℕ) (b a : List ℕ) : Type 0 where
+  pub alike : length b ≡ length a
+  pub places : n + length b < 2 ^ 32
+  pub spared : touched ≡ false → b ≡ a
+
+-- ---- the fields of a device that is held in parts
+
+-- 0 to 9, and then others
+unfoldable pub scalarsIn : Small → List ℕ → List ℕ
+scalarsIn s rest =
+    s .cr ∷ s .erq ∷ s .eei ∷ s .int ∷ s .err ∷ s .kick ∷ s .deferred ∷ s .deadline ∷ s .level ∷ s .standing ∷ rest
+
+-- 0 to 63
+unfoldable pub headIn : Small → List ℕ
+headIn s =
+    scalarsIn s
+    (0 ∷ 0 ∷ 0 ∷ 0 ∷ 0 ∷ 0 ∷ masksOf (controller (s .controllers) 0) (masksOf (controller (s .controllers) 1) (masksOf (controller (s .controllers) 2) (replicate 36 0))))
+
+-- 0 to 255; busy, majors, pending
+unfoldable pub lowIn : Small → List ℕ → List ℕ → List ℕ → List ℕ
+lowIn s busy majors pending = headIn s ++ (busy ++ (majors ++ pending))
+
+-- from 256 on; taken
+unfoldable pub highIn : List Controller → List ℕ → List ℕ
+highIn k taken = controller k 0 .levels ++ (controller k 1 .levels ++ (controller k 2 .levels ++ (replicate 128 0 ++ taken)))
+
+unfoldable pub fieldsIn : Small → List ℕ → List ℕ → List ℕ → List ℕ → List ℕ
+fieldsIn s busy majors pending taken = lowIn s busy majors pending ++ highIn (s .controllers) taken
+
+abbrev pub smallOf : Device → Small
+smallOf d = record {
+  erq = d .erq;
+  eei = d .eei;
+  int = d .int;
+  err = d .err;
+  kick = d .kick;
+  deferred = d .deferred;
+  deadline = d .deadline;
+  standing = d .standing;
+  controllers = d .controllers;
+  cr = d .cr;
+  level = d .level;
+}
+
+-- the levels of the three controllers are the same
+pub record SameLevels (k l : List Controller) : Type 0 where
+  pub first : controller k 0 .levels ≡ controller l 0 .levels
+  pub second : controller k 1 .levels ≡ controller l 1 .levels
+  pub third : controller k 2 .levels ≡ controller l 2 .levels
+
+-- an array that is not touched is the same before and after
+pub record Spared (t : Touched) (k l : List Controller) (busy busy′ majors majors′ pending pending′ taken taken′ : List ℕ) : Type 0 where
+  pub same-busy : t .busy ≡ false → busy ≡ busy′
+  pub same-majors : t .majors ≡ false → majors ≡ majors′
+  pub same-pending : t .pending ≡ false → pending ≡ pending′
+  pub same-levels : t .levels ≡ false → SameLevels k l
+  pub same-taken : t .taken ≡ false → taken ≡ taken′
+
+abbrev pub SparedOf : Touched → Device → Device → Type 0
+SparedOf t d e = Spared t (d .controllers) (e .controllers) (d .busy) (e .busy) (d .majors) (e .majors) (d .pending) (e .pending) (d .taken) (e .taken)
+
+-- ---- how an act that began at u and reached device d ends: made, or refused for want of room
+
+unfoldable pub closed : {A : Type 0} → Noted → A → World → Device → List ℕ → List ℕ → After A World
+closed (At e) a u d w j = made a (worldOf d w j e)
+closed Full a u d w j = unmade 11 (cleared u)
+
+-- what the end of an act promises, of every world that it began in with the fields xs, and every device that it reached with the fields ys;
+-- and the journal is the same below `at`, also where a record did not fit. (`closes` of proofs/Group has it for every answer.)
+pub record Closes (r : Noted) (xs ys : List ℕ) (used at : ℕ) (j j′ : List ℕ) : Type 0 where
+  pub ends : (u : World) (d : Device) (w : List ℕ) → fieldsOf (u .now .dev) ≡ xs → fieldsOf d ≡ ys → length (u .used) ≡ used
+      → closed r (tt {0}) u d w j′ ≡ leave u (ok tt (worldOf d w j at))
+  pub front : take at j′ ≡ take at j
+  pub long : length j′ ≡ length j

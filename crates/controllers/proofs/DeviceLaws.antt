@@ -1,0 +1,156 @@
+-- The acts of `specs/Lines.antt` of rules on a device: what they answer and leave, said of its controllers. Assumes nothing.
+use mathlib.Core.List.{List, [], _∷_}
+use mathlib.Core.Path.{_≡_, refl, sym, ap, _∙_, subst}
+use Prim.Native.Nat.{ℕ, zero, suc, _+_, _%_, _^_, _<_, max}
+use native.Mathlib.Nat.{mod-lt}
+use native.Mathlib.Omega.{arith}
+use borrow.Author.Tests.{eq-eqb, ne-eqb}
+use lib.ListN.{length, getD, set}
+use lib.Pow.{pow-pos}
+use lib.Seq.{ext-getD}
+use Rattle.rules.specs.declared.Controller.{Controller}
+use Rattle.rules.specs.declared.Device.{Device}
+use Rattle.rules.specs.declared.Heard.{Heard}
+use Rattle.rules.specs.declared.Heard.the-variants as Heard
+use Rattle.rules.specs.Act.{acts, put, INT, LEVEL, LINES, SOURCE, TAKEN}
+use Rattle.rules.specs.Bytes.{part}
+use Rattle.rules.specs.Carry.{go}
+use Rattle.rules.specs.Fields.{controller, bitsOf, holds, withField, partsOf}
+use Rattle.rules.specs.With.{withControllers, withLines, withLevel}
+use Rattle.rules.specs.Lines.{driven, sources, levelBytes, levelOf, relevel, above, heardFrom, hear, acknowledge, Found}
+use Rattle.rules.proofs.BytesLaws.{length-part, getD-part}
+use Rattle.rules.proofs.FieldLaws.{in-three, Sound, sized, holds-fits}
+use Rattle.flow.specs.Does.{Answers, Does}
+use Rattle.flow.proofs.DoesLaws.{answers-done, answers-ask, answers-bind, answers-then, does-put, does-change}
+use Rattle.controllers.proofs.MaskParts.{driven-fits}
+use Rattle.controllers.specs.Levels.{sourcesOf, levelIn, loudIn}
+
+-- ---- what a controller says
+
+-- a part that is the whole list
+part-whole : (xs : List ℕ) (n : ℕ) → length xs ≡ n → part xs 0 n ≡ xs
+part-whole xs n e = ext-getD 0 (part xs 0 n) xs (length-part xs 0 n ∙ sym e) (λ i h. getD-part xs 0 n i (rw (length-part xs 0 n) at h) ∙ at i)
+  where
+    at : (i : ℕ) → getD xs (0 + i) 0 ≡ getD xs i 0
+    at i = ap (λ (k : ℕ). getD xs k 0) (plain i)
+      where
+        plain : (i : ℕ) → 0 + i ≡ i
+        plain i = omega arith
+
+module _ (d : Device) (c : ℕ) where
+  sources-answers : Answers (sources c) d (sourcesOf (d .«ignore_masks») (controller (d .controllers) c)) d
+  unfolding Answers go sources acts
+  sources-answers base staging mem used free = refl
+
+  bytes-answer : (n s : ℕ) → Answers (levelBytes c n s) d (part (controller (d .controllers) c .levels) s n) d
+  unfolding levelBytes part
+  bytes-answer zero s = answers-done d []
+  bytes-answer (suc n) s =
+      answers-bind _ _ d d d _ _ (answers-ask d (SOURCE c s)) (answers-bind _ _ d d d _ _ (bytes-answer n (suc s)) (answers-done d _))
+
+  module _ (long : length (controller (d .controllers) c .levels) ≡ 64) where
+    levels-answer : Answers (levelBytes c 64 0) d (controller (d .controllers) c .levels) d
+    levels-answer =
+        subst (λ (l : List ℕ). Answers (levelBytes c 64 0) d l d) (part-whole (controller (d .controllers) c .levels) 64 long) (bytes-answer 64 0)
+
+    level-answers : Answers (levelOf c) d (levelIn (d .«ignore_masks») (controller (d .controllers) c)) d
+    unfolding levelOf levelIn
+    level-answers = answers-bind _ _ d d d _ _ sources-answers (answers-bind _ _ d d d _ _ levels-answer (answers-done d _))
+
+    heard-answers : (ipl : ℕ) (below : Found) → Answers (heardFrom ipl c below) d (above c (loudIn ipl (d .«ignore_masks») (controller (d .controllers) c)) below) d
+    unfolding heardFrom loudIn
+    heard-answers ipl below = answers-bind _ _ d d d _ _ sources-answers (answers-bind _ _ d d d _ _ levels-answer (answers-done d _))
+
+-- ---- three controllers
+
+-- each has 64 level bytes
+levels-long : (d : Device) → Sound d → (c : ℕ) → c < 3 → length (controller (d .controllers) c .levels) ≡ 64
+unfolding partsOf
+levels-long d s zero h = sized d s .1 .1 .1 .1 .0
+levels-long d s (suc zero) h = sized d s .1 .1 .1 .1 .1 .0
+levels-long d s (suc (suc zero)) h = sized d s .1 .1 .1 .1 .1 .1 .0
+levels-long d s (suc (suc (suc c))) h = absurd (omega arith)
+
+-- ---- lines and level worked out anew
+
+-- controller c of d with the lines that INT drives
+abbrev pub driving : Device → ℕ → Controller
+driving d c = withLines (controller (d .controllers) c) (driven c (d .int) (controller (d .controllers) c .lines))
+
+-- three others stored in an array of controllers, as code does it
+abbrev pub stored3 : List Controller → Controller → Controller → Controller → List Controller
+stored3 cs x y z = set (set (set cs 0 x) 1 y) 2 z
+
+-- d with three controllers
+abbrev pub with3 : Device → Controller → Controller → Controller → Device
+with3 d x y z = withControllers d (x ∷ y ∷ z ∷ [])
+
+module _ (d : Device) (a b c : Controller) (s : Sound (with3 d a b c)) where
+  x : Controller
+  x = driving (with3 d a b c) 0
+
+  y : Controller
+  y = driving (with3 d a b c) 1
+
+  z : Controller
+  z = driving (with3 d a b c) 2
+
+  lines-fit : (i : ℕ) → driven i (d .int) (controller (a ∷ b ∷ c ∷ []) i .lines) < 2 ^ 64
+  unfolding bitsOf
+  lines-fit i = driven-fits i (d .int) _ (holds-fits (LINES i) (with3 d a b c) s)
+
+  three-does : (n : ℕ) → n < 2 ^ 8 → n ≡ max (levelIn (d .«ignore_masks») z) (max (levelIn (d .«ignore_masks») y) (levelIn (d .«ignore_masks») x))
+      → Does relevel (with3 d a b c) (withLevel (with3 d x y z) n)
+  unfolding relevel bitsOf x y z
+  three-does n h e =
+      let r : Device = withLevel (with3 d x y z) n in
+      answers-bind _ _ (with3 d a b c) (with3 d a b c) r _ _ (answers-ask (with3 d a b c) INT)
+      (answers-then _ _ (with3 d a b c) (with3 d x b c) r _ _ (does-change (with3 d a b c) (LINES 0) (driven 0 (d .int)) (lines-fit 0))
+      (answers-then _ _ (with3 d x b c) (with3 d x y c) r _ _ (does-change (with3 d x b c) (LINES 1) (driven 1 (d .int)) (lines-fit 1))
+      (answers-then _ _ (with3 d x y c) (with3 d x y z) r _ _ (does-change (with3 d x y c) (LINES 2) (driven 2 (d .int)) (lines-fit 2))
+      (answers-bind _ _ (with3 d x y z) (with3 d x y z) r _ _ (level-answers (with3 d x y z) 0 (levels-long (with3 d a b c) s 0 (omega arith)))
+      (answers-bind _ _ (with3 d x y z) (with3 d x y z) r _ _ (level-answers (with3 d x y z) 1 (levels-long (with3 d a b c) s 1 (omega arith)))
+      (answers-bind _ _ (with3 d x y z) (with3 d x y z) r _ _ (level-answers (with3 d x y z) 2 (levels-long (with3 d a b c) s 2 (omega arith)))
+      (subst (λ (v : ℕ). Does (put LEVEL v) (with3 d x y z) r) e (does-put (with3 d x y z) LEVEL n h))))))))
+
+-- as code makes it: the lines of each, then the highest of their levels
+pub relevel-does : (d : Device) → Sound d → {x y z : Controller} {l0 l1 l2 m n : ℕ} → x ≡ driving d 0 → y ≡ driving d 1 → z ≡ driving d 2
+    → l0 ≡ levelIn (d .«ignore_masks») x → l1 ≡ levelIn (d .«ignore_masks») y → l2 ≡ levelIn (d .«ignore_masks») z → m ≡ max l1 l0 → n ≡ max l2 m → n < 2 ^ 8
+    → Does relevel d (withLevel (withControllers d (stored3 (d .controllers) x y z)) n)
+relevel-does d s {n = n} ex ey ez e0 e1 e2 em en h =
+    rw (ex, ey, ez)
+    (in-three
+    (λ cs. Sound (withControllers d cs)
+    → n ≡ max (levelIn (d .«ignore_masks») (driving (withControllers d cs) 2)) (max (levelIn (d .«ignore_masks») (driving (withControllers d cs) 1)) (levelIn (d .«ignore_masks») (driving (withControllers d cs) 0)))
+    → Does relevel (withControllers d cs)
+    (withLevel (withControllers d (stored3 cs (driving (withControllers d cs) 0) (driving (withControllers d cs) 1) (driving (withControllers d cs) 2))) n))
+    (λ a b c t e. unfold x y z in three-does d a b c t n h e)
+    (d .controllers) (s .three) s
+    (en ∙ rw (em, e2, e1, e0, ex, ey, ez) refl))
+
+-- ---- acknowledge
+
+module _ (d : Device) (l i : ℕ) where
+  pub hear-nothing : l ≡ 0 → Answers (hear (l, i)) d Heard.Nothing d
+  unfolding hear
+  hear-nothing e = rw (eq-eqb l 0 e) (answers-done d _)
+
+  -- the taken count rises, and wraps at 2^64
+  pub hear-source : {n v : ℕ} → (l ≡ 0 → ⊥) → v ≡ (holds (TAKEN i) d + 1) % 2 ^ 64 → n ≡ 64 + i → Answers (hear (l, i)) d (Heard.Source l n) (withField (TAKEN i) v d)
+  unfolding hear bitsOf
+  hear-source {v = v} h e f =
+      rw (ne-eqb l 0 h, f, e)
+      (answers-then _ _ d (withField (TAKEN i) ((holds (TAKEN i) d + 1) % 2 ^ 64) d) _ _ _ (does-change d (TAKEN i) (λ n. (n + 1) % 2 ^ 64) (mod-lt _ (pow-pos 64)))
+      (answers-done _ _))
+
+-- as code makes it: what is heard from each, then that source is heard
+pub acknowledge-answers : (d : Device) → Sound d → (ipl : ℕ) {h0 h1 h2 : Found} → h0 ≡ above 0 (loudIn ipl (d .«ignore_masks») (controller (d .controllers) 0)) (0, 0)
+    → h1 ≡ above 1 (loudIn ipl (d .«ignore_masks») (controller (d .controllers) 1)) h0
+    → h2 ≡ above 2 (loudIn ipl (d .«ignore_masks») (controller (d .controllers) 2)) h1
+    → (a : Heard) (r : Device) → Answers (hear h2) d a r → Answers (acknowledge ipl) d a r
+unfolding acknowledge
+acknowledge-answers d s ipl e0 e1 e2 a r h =
+    answers-bind _ _ d d r _ _ (heard-answers d 0 (levels-long d s 0 (omega arith)) ipl (0, 0))
+    (rw (← e0) (answers-bind _ _ d d r _ _ (heard-answers d 1 (levels-long d s 1 (omega arith)) ipl _)
+    (rw (← e1) (answers-bind _ _ d d r _ _ (heard-answers d 2 (levels-long d s 2 (omega arith)) ipl _)
+    (rw (← e2) h)))))

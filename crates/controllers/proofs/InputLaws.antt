@@ -1,0 +1,111 @@
+-- The acts that give the device its inputs, said of its fields. Assumes nothing.
+use mathlib.Core.Bool.{cond}
+use mathlib.Core.List.{List}
+use mathlib.Core.Path.{_≡_}
+use Prim.Native.Nat.{ℕ, zero, suc, _+_, _-_, _^_, _≤_, _<_}
+use native.Mathlib.Nat.{lt-of-le-of-lt}
+use native.Mathlib.Numerals.{add-one}
+use native.Mathlib.Omega.{arith}
+use lib.Bits.{bitAnd, bitOr, or-lt, and-le-r}
+use lib.Dec.{eqb}
+use lib.ListN.{getD}
+use Rattle.rules.specs.declared.Controller.{Controller}
+use Rattle.rules.specs.declared.Device.{Device}
+use Rattle.rules.specs.Act.{ERQ, KICK, STANDING, LINES, PENDING}
+use Rattle.rules.specs.Calls.{setInputs}
+use Rattle.rules.specs.Fields.{controller, bitsOf}
+use Rattle.rules.specs.Lines.{ownedFrom}
+use Rattle.rules.specs.Run.{waiting, requesting}
+use Rattle.rules.specs.With.{withControllers, withKick, withLines, withStanding}
+use Rattle.rules.specs.Words.{gain}
+use Rattle.rules.proofs.FieldLaws.{in-three, Sound, holds-fits}
+use Rattle.flow.specs.Does.{Answers, Does}
+use Rattle.flow.proofs.DoesLaws.{answers-done, answers-ask, answers-bind, answers-then, does-put, does-change}
+use Rattle.controllers.specs.Waiting.{waitingIn}
+use Rattle.controllers.proofs.MaskParts.{owned-fits}
+use Rattle.controllers.proofs.DeviceLaws.{stored3, with3}
+
+-- ---- requesting channels
+
+waiting-answers : (d : Device) (n ch m : ℕ) → Answers (waiting n ch m) d (waitingIn (d .pending) n ch m) d
+unfolding waiting waitingIn
+waiting-answers d zero ch m = answers-done d m
+waiting-answers d (suc n) ch m = answers-bind _ _ d d d _ _ (answers-ask d (PENDING ch)) (waiting-answers d n (suc ch) _)
+
+pub requesting-answers : (d : Device) {r : ℕ} → r ≡ waitingIn (d .pending) 64 0 (d .standing) → Answers requesting d r d
+unfolding requesting
+requesting-answers d e = rw e (answers-bind _ _ d d d _ _ (answers-ask d STANDING) (waiting-answers d 64 0 (d .standing)))
+
+-- a turn of the loop over the channels
+pub waiting-turn : (counts : List ℕ) (i m whole : ℕ) {m′ : ℕ} → i < 64 → m′ ≡ cond (eqb (getD counts i 0) 0) m (gain m i)
+    → waitingIn counts (64 - i) i m ≡ whole → waitingIn counts (64 - (i + 1)) (i + 1) m′ ≡ whole
+unfolding waitingIn
+waiting-turn counts i m whole h e w =
+    let q : 64 - i ≡ suc (64 - (i + 1)) = omega arith in
+    rw (e, add-one) (rw (q, add-one) at w)
+
+pub waiting-end : (counts : List ℕ) (i m whole : ℕ) → 64 ≤ i → waitingIn counts (64 - i) i m ≡ whole → m ≡ whole
+unfolding waitingIn
+waiting-end counts i m whole h w = let q : 64 - i ≡ 0 = omega arith in rw q at w
+
+-- ---- new inputs
+
+-- controller c of d with lines that are given
+abbrev pub giving : Device → ℕ → ℕ → Controller
+giving d c lines = withLines (controller (d .controllers) c) (ownedFrom c (controller (d .controllers) c .lines) lines)
+
+-- KICK gains those that request and have their ERQ bit set
+abbrev pub gaining : Device → ℕ → ℕ
+gaining d asking = bitOr (d .kick) (bitAnd asking (d .erq))
+
+module _ (s l0 l1 l2 : ℕ) (hs : s < 2 ^ 64) (h0 : l0 < 2 ^ 64) (h1 : l1 < 2 ^ 64) (h2 : l2 < 2 ^ 64) where
+  abbrev given : Device → List Controller → Device
+  given d cs = withStanding (withControllers d cs) s
+
+  abbrev all : Device → List Controller → List Controller
+  all d cs = stored3 cs (giving (withControllers d cs) 0 l0) (giving (withControllers d cs) 1 l1) (giving (withControllers d cs) 2 l2)
+
+  kick-fits : (d : Device) → Sound d → (asking : ℕ) → gaining d asking < 2 ^ 64
+  unfolding bitsOf
+  kick-fits d t asking = or-lt 64 (d .kick) _ (holds-fits KICK d t) (lt-of-le-of-lt (and-le-r asking (d .erq)) (holds-fits ERQ d t))
+
+  module _ (d : Device) (a b c : Controller) (t : Sound (with3 d a b c)) (asking : ℕ) where
+    x : Controller
+    x = giving (with3 d a b c) 0 l0
+
+    y : Controller
+    y = giving (with3 d a b c) 1 l1
+
+    z : Controller
+    z = giving (with3 d a b c) 2 l2
+
+    abbrev last : Device
+    last = withStanding (with3 d x y z) s
+
+    three-given : Answers requesting last asking last → Does (setInputs s l0 l1 l2) (with3 d a b c) (withKick last (gaining d asking))
+    unfolding setInputs bitsOf x y z
+    three-given asks =
+        let r : Device = withKick last (gaining d asking) in
+        let d0 : Device = withStanding (with3 d a b c) s in
+        let d1 : Device = withStanding (with3 d x b c) s in
+        let d2 : Device = withStanding (with3 d x y c) s in
+        answers-then _ _ (with3 d a b c) d0 r _ _ (does-put (with3 d a b c) STANDING s hs)
+        (answers-then _ _ d0 d1 r _ _ (does-change d0 (LINES 0) (λ old. ownedFrom 0 old l0) (owned-fits 0 (a .lines) l0 h0))
+        (answers-then _ _ d1 d2 r _ _ (does-change d1 (LINES 1) (λ old. ownedFrom 1 old l1) (owned-fits 1 (b .lines) l1 h1))
+        (answers-then _ _ d2 last r _ _ (does-change d2 (LINES 2) (λ old. ownedFrom 2 old l2) (owned-fits 2 (c .lines) l2 h2))
+        (answers-bind _ _ last last r _ _ (answers-ask last ERQ)
+        (answers-bind _ _ last last r _ _ asks
+        (does-change last KICK (λ k. bitOr k (bitAnd asking (d .erq))) (kick-fits (with3 d a b c) t asking)))))))
+
+  -- as code makes it: the lines of each, then the requesting channels of that device
+  pub inputs-does : (d : Device) → Sound d → (asking : ℕ) {x y z : Controller} → x ≡ giving d 0 l0 → y ≡ giving d 1 l1 → z ≡ giving d 2 l2
+      → Answers requesting (given d (stored3 (d .controllers) x y z)) asking (given d (stored3 (d .controllers) x y z))
+      → Does (setInputs s l0 l1 l2) d (withKick (given d (stored3 (d .controllers) x y z)) (gaining d asking))
+  inputs-does d t asking ex ey ez =
+      rw (ex, ey, ez)
+      (in-three
+      (λ cs. Sound (withControllers d cs)
+      → Answers requesting (given d (all d cs)) asking (given d (all d cs))
+      → Does (setInputs s l0 l1 l2) (withControllers d cs) (withKick (given d (all d cs)) (gaining d asking)))
+      (λ a b c t asks. unfold x y z in three-given d a b c t asking asks)
+      (d .controllers) (t .three) t)

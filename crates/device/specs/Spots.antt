@@ -1,0 +1,61 @@
+-- Where the field of a number stands in a device, and how many bits it has; what is known of a controller. Assumes nothing.
+use mathlib.Core.Option.{Option, none, some}
+use mathlib.Core.Path.{_≡_}
+use Prim.Native.Nat.{ℕ, _^_, _<_}
+use lib.ListN.{length}
+use Rattle.rules.specs.Act.{Field, BUSY, MAJORS, PENDING, SOURCE, TAKEN}
+use Rattle.rules.specs.Bytes.{Bytes}
+use Rattle.rules.specs.Fields.{bitsOf, holds, ofController, fieldAt}
+use Rattle.rules.specs.declared.Controller.{Controller}
+use Rattle.rules.specs.declared.Device.{Device}
+use Rattle.device.specs.declared.Spot.{Spot}
+use Rattle.device.specs.declared.Spot.the-variants.{Nowhere, Scalar, Own, Busy, Majors, Pending, Source, Taken}
+
+-- the field that stands there
+abbrev pub named : Spot → Option Field
+named Nowhere = none
+named (Scalar n) = fieldAt n
+named (Own c k) = some (ofController k c)
+named (Busy ch) = some (BUSY ch)
+named (Majors ch) = some (MAJORS ch)
+named (Pending ch) = some (PENDING ch)
+named (Source c s) = some (SOURCE c s)
+named (Taken i) = some (TAKEN i)
+
+-- there is such a place
+abbrev pub Inside : Spot → Type 0
+Inside Nowhere = Unit {0}
+Inside (Scalar n) = n < 10
+Inside (Own c k) = (c < 3) × (k < 4)
+Inside (Busy ch) = ch < 64
+Inside (Majors ch) = ch < 64
+Inside (Pending ch) = ch < 64
+Inside (Source c s) = (c < 3) × (s < 64)
+Inside (Taken i) = i < 192
+
+-- the spot of number n
+pub record Found (n : ℕ) (s : Spot) : Type 0 where
+  pub name : named s ≡ fieldAt n
+  pub inside : Inside s
+
+-- how many bits a field has; 0 where there is none
+abbrev pub bitsSome : Option Field → ℕ
+bitsSome none = 0
+bitsSome (some f) = bitsOf f
+
+abbrev pub bitsAt : ℕ → ℕ
+bitsAt n = bitsSome (fieldAt n)
+
+-- what a device holds in a field; 0 where there is none
+abbrev pub holdsSome : Option Field → Device → ℕ
+holdsSome none d = 0
+holdsSome (some f) d = holds f d
+
+-- the bounds of a controller's numbers, and the length of its levels
+pub record Fits (k : Controller) : Type 0 where
+  pub masks : k .masks < 2 ^ 64
+  pub forced : k .forced < 2 ^ 64
+  pub lines : k .lines < 2 ^ 64
+  pub config : k .config < 2 ^ 16
+  pub levels-long : length (k .levels) ≡ 64
+  pub levels : Bytes (k .levels)

@@ -1,0 +1,99 @@
+-- Which arm of `dmaWrite` a write is, and what the arms do. Assumes nothing.
+use mathlib.Core.Bool.{Bool, true, false, cond, not, _&&_}
+use mathlib.Core.List.{List}
+use mathlib.Core.Option.{Option, none, some}
+use mathlib.Core.Path.{_≡_, refl, sym, ap, _∙_}
+use Prim.Native.Nat.{ℕ, _+_, _-_, _*_, _/_, _^_, _≤_, _<_}
+use borrow.Author.Tests.{ne-eqb}
+use lib.Bits.{bitOr}
+use lib.Dec.{ltb}
+use lib.ListN.{length}
+use Rattle.rules.specs.declared.Device.{Device}
+use Rattle.rules.specs.Act.{Act, Field, table, nothing, fetch, store, change, when, _>>=_, _>>_, KICK}
+use Rattle.rules.specs.Bytes.{number, part}
+use Rattle.rules.specs.Calls.{isNone, orNothing, worldOf, badSize}
+use Rattle.rules.specs.Carry.{Out, ok, go, legal}
+use Rattle.rules.specs.Fields.{bitsOf, holds, withField}
+use Rattle.rules.specs.Registers.{within, inTable, command, tableWrite, pick, dmaArms, dmaWrite}
+use Rattle.rules.specs.Minor.{START}
+use Rattle.rules.specs.Words.{has, gain}
+use Rattle.flow.specs.Does.{Does}
+use Rattle.flow.specs.Worlds.{told, walked, on}
+use Rattle.flow.specs.declared.Step.{Step}
+use Rattle.flow.specs.declared.Walk.the-variants.{On}
+use Rattle.flow.proofs.DoesLaws.{does-change}
+use Rattle.flow.proofs.Laws.{then, fetched}
+use Rattle.intc.proofs.ReadLaws.{never}
+use Rattle.dma.specs.Started.{startsIn}
+use Rattle.journal.specs.Widths.{TableWidth}
+use Rattle.dma_read.proofs.Laws.{small, width}
+use native.Mathlib.Omega.{arith}
+
+-- the sizes that refusal 1 lets through are widths of a descriptor store
+pub table-wide : (size : ℕ) → badSize size ≡ false → TableWidth size
+unfolding legal
+table-wide size e = let s = small size e in record { positive = s .0; most = omega arith; one-of = width size e }
+
+-- ---- which arm it is
+
+if-idle : (b : Bool) → orNothing (cond b (some nothing) none) ≡ nothing
+unfolding orNothing
+if-idle true = refl
+if-idle false = refl
+
+if-there : (b : Bool) → b ≡ not (isNone {A = Act (Unit {0})} (cond b (some nothing) none))
+unfolding isNone
+if-there true = refl
+if-there false = refl
+
+module _ (off v : ℕ) where
+  pub write-table : (size : ℕ) → inTable off ≡ true → dmaWrite off size v ≡ some (tableWrite (off - 0x1000) size v)
+  unfolding dmaWrite
+  write-table size e = rw e
+
+  module _ (e : inTable off ≡ false) where
+    -- no arm is a byte
+    no-byte : pick off 1 (dmaArms v) ≡ none
+    unfolding pick dmaArms
+    no-byte = simp never
+
+    pub write-command : within 0x18 0x1F off ≡ true → dmaWrite off 1 v ≡ some (command (off - 0x18) v)
+    unfolding dmaWrite
+    write-command f = rw (e, f)
+
+    -- a byte that is no command does nothing; there is such a register where it is a priority
+    module _ (f : within 0x18 0x1F off ≡ false) where
+      pub byte-idle : orNothing (dmaWrite off 1 v) ≡ nothing
+      unfolding dmaWrite
+      byte-idle = rw (e, f, no-byte) (if-idle (within 0x100 0x13F off))
+
+      pub byte-there : within 0x100 0x13F off ≡ not (isNone (dmaWrite off 1 v))
+      unfolding dmaWrite
+      byte-there = rw (e, f, no-byte) (if-there (within 0x100 0x13F off))
+
+    pub write-word : dmaWrite off 4 v ≡ pick off 4 (dmaArms v)
+    unfolding dmaWrite
+    write-word = rw e
+
+    pub write-none : (size : ℕ) → (size ≡ 1 → ⊥) → (size ≡ 4 → ⊥) → dmaWrite off size v ≡ none
+    unfolding dmaWrite pick dmaArms
+    write-none size p q = simp (e, ne-eqb size 1 p, ne-eqb size 4 q, never)
+
+-- ---- what the arms do
+
+-- a field gets the value that an act works out for it
+pub changed-to : (d : Device) (f : Field) (g : ℕ → ℕ) {x : ℕ} → x ≡ g (holds f d) → x < 2 ^ bitsOf f → Does (change f g) d (withField f x d)
+changed-to d f g e h = rw e (does-change d f g (rw e at h))
+
+-- a descriptor write: its store, and then KICK
+module _ (base staging : ℕ) (d : Device) (w j : List ℕ) (at off size v : ℕ) (s : Step) (j′ t l : List ℕ) where
+  pub table-written : {r o p : Out (Unit {0})} {b : Bool} {m : ℕ} → 32 * (off / 32) + 0x1F + 1 ≤ length t → b ≡ startsIn t off size → m ≡ 2 ^ (off / 32)
+      → r ≡ on base staging (when b (change KICK (λ k. bitOr k m))) o → o ≡ told s d w j′ t l
+      → told s d w j′ t l ≡ on base staging (store table off size v) p → p ≡ walked (On at) d w j
+      → r ≡ go base staging (tableWrite off size v) (worldOf d w j at)
+  unfolding tableWrite startsIn gain walked on
+  table-written h e f kicks back stores begins =
+      let rest : List ℕ → Act (Unit {0}) = λ b. when (ltb (32 * (off / 32) + 0x1F) (off + size) && has (number b) START) (change KICK (λ k. bitOr k (2 ^ (off / 32)))) in
+      then base staging (store table off size v) (fetch table (32 * (off / 32) + 0x1F) 1 >>= rest) (ok tt (worldOf d w j at))
+      (kicks ∙ rw (back, e, f) (sym (fetched base staging s d w j′ t l (32 * (off / 32) + 0x1F) 1 rest h)))
+      (stores ∙ rw begins refl)

@@ -1,0 +1,38 @@
+use Rattle.dma.proofs.Laws.{write-command, byte-idle}
+use Rattle.intc.proofs.ReadLaws.{within-true}
+use Rattle.flow.specs.Worlds.{walked, on}
+use Rattle.rules.specs.Carry.{go}
+use Rattle.rules.specs.Calls.{orNothing}
+use native.Mathlib.Omega.{arith}
+use mathlib.Core.Path.{sym, _∙_}
+use borrow.Author.Needs.{needs}
+use Rattle.dma.proofs.byte_written.Statement.{statement}
+use Rattle.dma.proofs.byte_written.Tie as tie
+use Rattle.dma.proofs.byte_written.Reads as reads
+use Rattle.dma.proofs.byte_written.Lts as lts
+use Rattle.dma_commands.proofs.command.Reads as command-reads
+use Rattle.intc.proofs.within.Reads as within-reads
+
+within-requires : tie.Need-within-requires
+within-requires c κs = search needs
+
+sub-command : tie.Need-sub-command
+sub-command c = omega (arith, within-true _ _ _ (sym (c .before .within .ensures) ∙ c .if1 .taken))
+
+command-requires : tie.Need-command-requires
+command-requires c κs = omega (arith, within-true _ _ _ (sym (c .before .before .within .ensures) ∙ c .before .if1 .taken))
+
+same-length : tie.Need-same-length
+same-length c = search needs
+
+returns : tie.Need-returns
+unfolding orNothing walked on
+returns c base staging w = rw (write-command _ _ (c .before .before .before .before .before .before .before .pre) (sym (c .before .before .before .before .before .within .ensures) ∙ c .before .before .before .before .if1 .taken)) (c .before .before .command .ensures base staging w)
+
+returns-2 : tie.Need-returns-2
+unfolding walked go
+returns-2 c base staging w = rw (byte-idle _ _ (c .before .before .before .pre) (sym (c .before .within .ensures) ∙ c .if1 .left))
+
+pub byte-written-spec : {M : Type 1} → statement M
+byte-written-spec =
+    tie.close (tie.spec within-requires sub-command command-requires same-length returns returns-2)

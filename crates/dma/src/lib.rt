@@ -1,0 +1,209 @@
+// The DMA registers and the descriptor table, written.
+use dma_commands::Reached;
+use flow::Walk;
+use rules::Device;
+ghost use mathlib.Core.Path.{_≡_};
+ghost use mathlib.Core.Bool.{false, not};
+ghost use Prim.Native.Nat.{ℕ, _+_, _≤_, _<_};
+ghost use lib.ListN.{length, drop};
+ghost use Rattle.rules.specs.Calls.{badSize, isNone, orNothing};
+ghost use Rattle.rules.specs.Registers.{inTable, tableWrite, pick, dmaArms, dmaWrite};
+ghost use Rattle.flow.specs.Does.{Does};
+ghost use Rattle.dma_commands.specs.Reaching.{Reaches};
+ghost use Rattle.dma_read.specs.Access.{Fair};
+ghost use Rattle.dma.specs.Started.{startsIn};
+
+// ---- is there such a register: refusal 3 comes before anything is done, and so this is asked apart
+
+fn byte_known(off: u32) -> bool
+    requires { ⌜ inTable off ≡ false ⌝ }
+    ensures { λ r. ⌜ ((v : ℕ) → r ≡ not (isNone (dmaWrite off 1 v))) ⌝ }
+{
+    if intc::within(0x18, 0x1F, off) {
+        return true;
+    }
+    intc::within(0x100, 0x13F, off)
+}
+
+fn word_known(off: u32) -> bool
+    requires { ⌜ inTable off ≡ false ⌝ }
+    ensures { λ r. ⌜ ((v : ℕ) → r ≡ not (isNone (dmaWrite off 4 v))) ⌝ }
+{
+    match off {
+        0x00 => true,
+        0x08 => true,
+        0x0C => true,
+        0x10 => true,
+        0x14 => true,
+        0x18 => true,
+        0x1C => true,
+        0x20 => true,
+        0x24 => true,
+        0x28 => true,
+        0x2C => true,
+        _ => false,
+    }
+}
+
+// "No such register at that offset and size": of the arms of `edma_write`, and of the table.
+pub fn edma_known(off: u32, size: u32) -> bool
+    ensures { λ r. ⌜ ((v : ℕ) → r ≡ not (isNone (dmaWrite off size v))) ⌝ }
+{
+    if intc::within(0x1000, 0x17FF, off) {
+        return true;
+    }
+    match size {
+        1 => byte_known(off),
+        4 => word_known(off),
+        _ => false,
+    }
+}
+
+// ---- the descriptor table
+
+// "Covers byte 0x1F of the channel it begins in, and leaves START set": of a write that was made.
+fn starts(table: &[u8; 2048], off: usize, size: usize) -> bool
+    requires { ⌜ (off < 2048) × (size ≤ 4) ⌝ }
+    ensures { λ r. ⌜ (r ≡ startsIn (now (table .entry)) off size) × (length (now (table .entry)) ≡ 2048) ⌝ }
+{
+    let last = 32 * (off / 32) + 0x1F;
+    let b = words::get1(table, last) as u64;
+    if off + size <= last {
+        return false;
+    }
+    words::has_bit(b, 0)
+}
+
+// "A guest descriptor write is one of its size"; where it starts its channel, it "sets that KICK bit".
+pub fn tcd_write(d: Device, off: u32, size: u32, v: u32, journal: &mut [u8], at: usize) -> Reached
+    requires { ⌜ (badSize size ≡ false) × (off + size ≤ 2048) ⌝ }
+    ensures { λ r. ⌜ Reaches (tableWrite off size v) d at r (now (journal .entry)) (now (journal .exit)) ⌝ }
+{
+    let place = off as usize;
+    let width = size as usize;
+    let mut table = d.table;
+    let begun = dma_commands::begun(d, at);
+    let s = journal::store_table(begun, &mut table, place, width, v as u64, journal);
+    let on = starts(&table, place, width);
+    dma_commands::with_kick(
+        dma_commands::put_back(d, s, table),
+        on,
+        1u64 << (place / 32),
+    )
+}
+
+// ---- words
+
+// INT and ERR lose the bits that are written: the last four arms.
+fn flags_written(d: Device, off: u32, v: u32) -> Device
+    ensures { λ r. ⌜ Does (orNothing (pick off 4 (drop 7 (dmaArms v)))) d r ⌝ }
+{
+    let mut e = d;
+    let high = (v as u64) * 0x100000000;
+    match off {
+        0x20 => {
+            e.int = words::without(d.int, high);
+            e
+        }
+        0x24 => {
+            e.int = words::without(d.int, v as u64);
+            e
+        }
+        0x28 => {
+            e.err = words::without(d.err, high);
+            e
+        }
+        0x2C => {
+            e.err = words::without(d.err, v as u64);
+            e
+        }
+        _ => d,
+    }
+}
+
+// CR, and half of ERQ or EEI. A word written to ERQ sets no KICK bit.
+fn masks_written(d: Device, off: u32, v: u32) -> Device
+    requires { ⌜ (off ≡ 0x18 → ⊥) × (off ≡ 0x1C → ⊥) ⌝ }
+    ensures { λ r. ⌜ Does (orNothing (pick off 4 (dmaArms v))) d r ⌝ }
+{
+    let mut e = d;
+    match off {
+        0x00 => {
+            e.cr = v;
+            e
+        }
+        0x08 => {
+            e.erq = intc::with_bytes_in(0, 4, v, d.erq);
+            e
+        }
+        0x0C => {
+            e.erq = intc::with_bytes_in(4, 4, v, d.erq);
+            e
+        }
+        0x10 => {
+            e.eei = intc::with_bytes_in(0, 4, v, d.eei);
+            e
+        }
+        0x14 => {
+            e.eei = intc::with_bytes_in(4, 4, v, d.eei);
+            e
+        }
+        _ => flags_written(d, off, v),
+    }
+}
+
+fn word_written(d: Device, off: u32, v: u32, journal: &mut [u8], at: usize) -> Reached
+    requires { ⌜ inTable off ≡ false ⌝ }
+    ensures { λ r. ⌜ Reaches (orNothing (dmaWrite off 4 v)) d at r (now (journal .entry)) (now (journal .exit)) ⌝ }
+{
+    let s = Reached {
+        walk: Walk::On(at),
+        device: d,
+    };
+    match off {
+        0x18 => dma_commands::commands(s, 0, v, journal),
+        0x1C => dma_commands::commands(s, 4, v, journal),
+        _ => Reached {
+            walk: Walk::On(at),
+            device: masks_written(d, off, v),
+        },
+    }
+}
+
+// ---- bytes
+
+// A command byte; the priorities of the channels, 0x100..0x13F, are not kept.
+fn byte_written(d: Device, off: u32, v: u32, journal: &mut [u8], at: usize) -> Reached
+    requires { ⌜ inTable off ≡ false ⌝ }
+    ensures { λ r. ⌜ Reaches (orNothing (dmaWrite off 1 v)) d at r (now (journal .entry)) (now (journal .exit)) ⌝ }
+{
+    let s = Reached {
+        walk: Walk::On(at),
+        device: d,
+    };
+    if intc::within(0x18, 0x1F, off) {
+        return dma_commands::command(s, off - 0x18, v, journal);
+    }
+    s
+}
+
+// ---- any register
+
+// "Registers are exactly the arms of [..] `edma_write` [..], and the descriptor table at DMA offsets 0x1000..0x17FF." Where there is no such
+// register, nothing is done.
+pub fn edma_write(d: Device, off: u32, size: u32, v: u32, journal: &mut [u8], at: usize) -> Reached
+    requires { ⌜ Fair off size ⌝ }
+    ensures { λ r. ⌜ Reaches (orNothing (dmaWrite off size v)) d at r (now (journal .entry)) (now (journal .exit)) ⌝ }
+{
+    if intc::within(0x1000, 0x17FF, off) {
+        return tcd_write(d, off - 0x1000, size, v, journal, at);
+    }
+    match size {
+        1 => byte_written(d, off, v, journal, at),
+        4 => word_written(d, off, v, journal, at),
+        _ => Reached {
+            walk: Walk::On(at),
+            device: d,
+        },
+    }
+}

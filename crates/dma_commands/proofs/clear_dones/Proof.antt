@@ -1,0 +1,25 @@
+use Rattle.dma_commands.specs.Reaching.{flagged}
+use Rattle.rules.specs.Registers.{clearDones}
+use borrow.Author.Needs.{needs}
+use Rattle.dma_commands.proofs.clear_dones.Statement.{statement}
+use Rattle.dma_commands.proofs.clear_dones.Tie as tie
+use Rattle.dma_commands.proofs.clear_dones.Reads as reads
+use Rattle.dma_commands.proofs.clear_dones.Lts as lts
+use Rattle.dma_commands.proofs.flag_channels.Reads as flag-channels-reads
+use Rattle.intc.proofs.named.Reads as named-reads
+
+named-requires : tie.Need-named-requires
+named-requires c κs = search needs
+
+flag-channels-requires : tie.Need-flag-channels-requires
+flag-channels-requires c κs = search needs
+
+same-length : tie.Need-same-length
+same-length c = search needs
+
+returns : tie.Need-returns
+unfolding clearDones flagged
+returns c base staging w = rw (← c .before .before .before .before .named .ensures) (c .before .before .flag-channels .ensures base staging w)
+
+pub clear-dones-spec : {M : Type 1} → statement M
+clear-dones-spec = tie.close (tie.spec named-requires flag-channels-requires same-length returns)

@@ -1,0 +1,49 @@
+use Rattle.dma_commands.proofs.Laws.{in-row}
+use borrow.Author.Needs.{needs}
+use Rattle.dma_commands.proofs.commands.Statement.{statement}
+use Rattle.dma_commands.proofs.commands.Tie as tie
+use Rattle.dma_commands.proofs.commands.Reads as reads
+use Rattle.dma_commands.proofs.commands.Lts as lts
+use Rattle.dma_commands.proofs.command.Reads as command-reads
+
+command-requires : tie.Need-command-requires
+command-requires c κs = search needs
+
+add-command : tie.Need-add-command
+add-command c = search needs
+
+command-requires-2 : tie.Need-command-requires-2
+command-requires-2 c κs = search needs
+
+add-command-2 : tie.Need-add-command-2
+add-command-2 c = search needs
+
+command-requires-3 : tie.Need-command-requires-3
+command-requires-3 c κs = search needs
+
+add-command-3 : tie.Need-add-command-3
+add-command-3 c = search needs
+
+command-requires-4 : tie.Need-command-requires-4
+command-requires-4 c κs = search needs
+
+same-length : tie.Need-same-length
+same-length c = search needs
+
+returns : tie.Need-returns
+returns c base staging w =
+    in-row base staging _ _ _ (c .before .before .command4 .ensures base staging w) (c .before .before .before .before .before .before .command3 .ensures base staging w) (c .before .before .before .before .before .before .before .before .before .before .command2 .ensures base staging w) (c .before .before .before .before .before .before .before .before .before .before .before .before .before .before .command .ensures base staging w)
+
+pub commands-spec : {M : Type 1} → statement M
+commands-spec =
+    tie.close
+    (tie.spec
+    command-requires
+    add-command
+    command-requires-2
+    add-command-2
+    command-requires-3
+    add-command-3
+    command-requires-4
+    same-length
+    returns)

@@ -1,0 +1,30 @@
+use Rattle.dma_commands.proofs.Laws.{through}
+use borrow.Author.Needs.{needs}
+use Rattle.dma_commands.proofs.flag_channels.Statement.{statement}
+use Rattle.dma_commands.proofs.flag_channels.Tie as tie
+use Rattle.dma_commands.proofs.flag_channels.Reads as reads
+use Rattle.dma_commands.proofs.flag_channels.Lts as lts
+use Rattle.dma_commands.proofs.begun.Reads as begun-reads
+use Rattle.dma_commands.proofs.flag_each.Reads as flag-each-reads
+use Rattle.dma_commands.proofs.put_back.Reads as put-back-reads
+
+begun-requires : tie.Need-begun-requires
+begun-requires c κs = search needs
+
+flag-each-requires : tie.Need-flag-each-requires
+flag-each-requires c κs = search needs
+
+put-back-requires : tie.Need-put-back-requires
+put-back-requires c κs = search needs
+
+same-length : tie.Need-same-length
+same-length c = search needs
+
+returns : tie.Need-returns
+returns c base staging w =
+    let a = c .before .before .before .before .before .before .before .before .before .args in
+    through base staging _ (a .d) w (a .journal .now) (a .at) (c .put-back .ensures w _) (c .before .before .before .flag-each .ensures base staging (a .d) w (a .d .majors)) (c .before .before .before .before .before .before .begun .ensures w (a .journal .now))
+
+pub flag-channels-spec : {M : Type 1} → statement M
+flag-channels-spec =
+    tie.close (tie.spec begun-requires flag-each-requires put-back-requires same-length returns)

@@ -1,0 +1,20 @@
+use Rattle.dma_commands.proofs.Laws.{requests}
+use borrow.Author.Needs.{needs}
+use Rattle.dma_commands.proofs.set_requests.Statement.{statement}
+use Rattle.dma_commands.proofs.set_requests.Tie as tie
+use Rattle.dma_commands.proofs.set_requests.Reads as reads
+use Rattle.dma_commands.proofs.set_requests.Lts as lts
+use Rattle.controllers.proofs.requesting.Reads as requesting-reads
+use Rattle.intc.proofs.named.Reads as named-reads
+
+named-requires : tie.Need-named-requires
+named-requires c κs = search needs
+
+requesting-requires : tie.Need-requesting-requires
+requesting-requires c κs = search needs
+
+returns : tie.Need-returns
+returns c = requests _ _ _ (c .before .before .before .named .ensures) (search needs) (search needs) (search needs) (c .before .requesting .ensures)
+
+pub set-requests-spec : {M : Type 1} → statement M
+set-requests-spec = tie.close (tie.spec named-requires requesting-requires returns)

@@ -1,0 +1,28 @@
+use Rattle.dma_commands.proofs.Laws.{off-stays, on-from, does-on, kicks}
+use Rattle.flow.proofs.Laws.{passed, taken}
+use borrow.Author.Tests.{not-true, not-false}
+use borrow.Author.Needs.{needs}
+use Rattle.dma_commands.proofs.with_kick.Statement.{statement}
+use Rattle.dma_commands.proofs.with_kick.Tie as tie
+use Rattle.dma_commands.proofs.with_kick.Reads as reads
+use Rattle.dma_commands.proofs.with_kick.Lts as lts
+
+enum-known-w : tie.Need-enum-known-w
+enum-known-w c = search needs
+
+enum-told : tie.Need-enum-told
+enum-told c = search needs
+
+returns : tie.Need-returns
+returns c j base staging w = off-stays base staging _ w j _ (c .enum-told .given .1)
+
+returns-2 : tie.Need-returns-2
+returns-2 c j base staging w = passed base staging _ _ _ (not-true _ (c .if1 .taken))
+
+returns-3 : tie.Need-returns-3
+returns-3 c j base staging w =
+    taken base staging _ _ _ (not-false _ (c .before .before .if1 .left))
+    (on-from base staging _ w j _ (c .before .before .before .before .w .given .1) (does-on base staging _ _ w j _ _ (kicks _ _ (search needs) (search needs))))
+
+pub with-kick-spec : {M : Type 1} → statement M
+with-kick-spec = tie.close (tie.spec enum-known-w enum-told returns returns-2 returns-3)

@@ -1,0 +1,47 @@
+use Rattle.dma_read.proofs.Laws.{four}
+use native.Mathlib.Omega.{arith}
+use borrow.Author.Needs.{needs}
+use Rattle.dma_read.proofs.tcd_read.Statement.{statement}
+use Rattle.dma_read.proofs.tcd_read.Tie as tie
+use Rattle.dma_read.proofs.tcd_read.Reads as reads
+use Rattle.dma_read.proofs.tcd_read.Lts as lts
+use Rattle.words.proofs.get1.Reads as get1-reads
+use Rattle.words.proofs.get2.Reads as get2-reads
+use Rattle.words.proofs.get4.Reads as get4-reads
+
+get1-requires : tie.Need-get1-requires
+get1-requires c κs = search needs
+
+cast-result : tie.Need-cast-result
+cast-result c = search needs
+
+get2-requires : tie.Need-get2-requires
+get2-requires c κs = search needs
+
+cast-result-2 : tie.Need-cast-result-2
+cast-result-2 c = search needs
+
+get4-requires : tie.Need-get4-requires
+get4-requires c κs = omega (arith, four _ (c .before .before .before .before .pre .0) (c .before .before .before .match .rest .0 .1) (c .before .before .before .match .rest .1))
+
+returns : tie.Need-returns
+returns c = rw (c .before .before .before .before .match .keys1) (c .get1 .ensures)
+
+returns-2 : tie.Need-returns-2
+returns-2 c = rw (c .before .before .before .before .match .keys2) (c .get2 .ensures)
+
+returns-3 : tie.Need-returns-3
+returns-3 c = rw (four _ (c .before .before .before .before .before .pre .0) (c .before .before .before .before .match .rest .0 .1) (c .before .before .before .before .match .rest .1)) (c .get4 .ensures)
+
+pub tcd-read-spec : {M : Type 1} → statement M
+tcd-read-spec =
+    tie.close
+    (tie.spec
+    get1-requires
+    cast-result
+    get2-requires
+    cast-result-2
+    get4-requires
+    returns
+    returns-2
+    returns-3)

@@ -1,0 +1,3 @@
+pub mod RegisterBytes
+pub mod ReadLaws
+pub mod WriteLaws

@@ -1,0 +1,116 @@
+// One minor loop of a channel: document 01, "Descriptors and one minor loop". Its transfer is in crates `mover` and `stager`, what follows it in
+// crate `finish`. Each contract says that the function does the steps of its tree (crate `rules`, specs/Minor.antt).
+use flow::Flow;
+use flow::Step;
+use mover::Moved;
+use mover::Steps;
+use rules::Tcd;
+ghost use mathlib.Core.Path.{_≡_};
+ghost use Prim.Native.Nat.{_≤_, _<_, _^_};
+ghost use lib.ListN.{length};
+ghost use Rattle.rules.specs.Minor.{transfer, pass};
+ghost use Rattle.stager.specs.Stages.{Stages};
+ghost use Rattle.minor.specs.Passes.{Passes};
+
+// What a pass came to: "count 0: nothing happens and the pass answers no"; or what it left.
+pub enum Passed {
+    Idle,
+    Ran(Step),
+}
+
+// "Equal sizes: read and write unit by unit"; "unequal: read all first". The bytes are rounded up to whole source sizes.
+fn transfer(
+    window: &mut [u8],
+    base: u32,
+    t: Tcd,
+    n: u32,
+    staging: &mut [u8],
+    journal: &mut [u8],
+    at: usize,
+) -> Moved
+    requires { ⌜ n ≤ 2 ^ 22 ⌝ }
+    ensures { λ r. ⌜ Stages (transfer t n) base (length (now (staging .entry))) at r (now (window .entry)) (now (window .exit)) (now (journal .entry)) (now (journal .exit)) ⌝ }
+{
+    let ssize = words::size_of(t.attr / 0x100);
+    let dsize = words::size_of(t.attr);
+    let step = Steps {
+        soff: words::signed16(t.soff),
+        smod: (t.attr / 0x800 % 32) as u32,
+        doff: words::signed16(t.doff),
+        dmod: (t.attr / 8 % 32) as u32,
+    };
+    let reads = words::whole_sizes(n, ssize);
+    let from = t.saddr;
+    let to = t.daddr;
+    if ssize == dsize {
+        return mover::move_sizes(window, base, ssize, reads, step, from, to, journal, at);
+    }
+    stager::move_unequal(
+        window,
+        base,
+        ssize,
+        dsize,
+        reads,
+        step,
+        from,
+        to,
+        staging,
+        journal,
+        at,
+    )
+}
+
+// The scalars, with another end of the journal.
+fn with_end(c: Flow, e: usize) -> Flow
+    ensures { λ r. ⌜ r ≡ record { cr = c .cr; erq = c .erq; int = c .int; kick = c .kick; at = e } ⌝ }
+{
+    Flow {
+        cr: c.cr,
+        erq: c.erq,
+        int: c.int,
+        kick: c.kick,
+        at: e,
+    }
+}
+
+// One minor loop.
+pub fn dma_minor(
+    c: Flow,
+    window: &mut [u8],
+    base: u32,
+    table: &mut [u8; 2048],
+    majors: &mut [u64; 64],
+    ch: usize,
+    staging: &mut [u8],
+    journal: &mut [u8],
+) -> Passed
+    requires { ⌜ ch < 64 ⌝ }
+    ensures { λ r. ⌜ Passes (pass ch) base (length (now (staging .entry))) c r (now (window .entry)) (now (window .exit)) (now (journal .entry)) (now (journal .exit)) (now (table .entry)) (now (table .exit)) (now (majors .entry)) (now (majors .exit)) ⌝ }
+{
+    let t = finish::read_tcd(table, ch);
+    let cr = c.cr;
+    if words::count_of(t.citer) == 0 {
+        return Passed::Idle;
+    }
+    let n = sums::minor_bytes(cr, t);
+    match transfer(window, base, t, n, staging, journal, c.at) {
+        Moved::Not(r, e) => Passed::Ran(Step::Refused(r, with_end(c, e))),
+        Moved::To(s, d, e) => {
+            let s1 = sums::moved_on(sums::sources(cr, t), t, s);
+            let d1 = sums::moved_on(sums::dests(cr, t), t, d);
+            let next = Step::Going(with_end(c, e));
+            Passed::Ran(finish::dma_minor_done(
+                next,
+                window,
+                base,
+                table,
+                majors,
+                ch,
+                t,
+                s1,
+                d1,
+                journal,
+            ))
+        }
+    }
+}

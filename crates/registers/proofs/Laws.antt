@@ -1,0 +1,231 @@
+-- The calls, by cases: what is wrong with the arguments, in number order, and what is done. Assumes nothing.
+use mathlib.Core.Bool.{Bool, true, false, not, _||_}
+use mathlib.Core.List.{List}
+use mathlib.Core.Option.{Option}
+use mathlib.Core.Path.{_≡_, refl, sym, _∙_}
+use Prim.Native.Nat.{ℕ, zero, suc, _+_, _%_, _^_, _≤_, _<_}
+use native.Mathlib.Omega.{arith}
+use borrow.Author.Tests.{le-leb, leb-false, ltb-false, ne-eqb, lt-ltb}
+use lib.Dec.{eqb, ltb}
+use lib.ListN.{length, take, drop}
+use Rattle.rules.specs.Act.{Act}
+use Rattle.rules.specs.Calls.{Asked, write, actOf, badSize, badJournal, isNone, orNothing, check, wrong, wrongRead, levelled, Told, told, toldActed, toldAfter, stagingAfter, toldReading, toldRead, refusalNumber, orZero, worldOf, after, afterRead}
+use Rattle.rules.specs.Carry.{ok, leave, perform}
+use Rattle.rules.specs.Registers.{within, inBlocks, inTable, blockOf, offsetOf, dmaRead, dmaWrite, readIn, readAt, writeIn, writeAt, controllerWrite, pastTable, pastWord}
+use Rattle.rules.specs.declared.Acted.{Acted}
+use Rattle.rules.specs.declared.Device.{Device}
+use Rattle.rules.specs.declared.Heard.{Heard}
+use Rattle.rules.specs.declared.Heard.the-variants as Heard
+use Rattle.rules.specs.declared.Reading.the-variants as Reading
+use Rattle.rules.specs.declared.Refusal.{Refusal}
+use Rattle.rules.specs.declared.Refusal.the-variants as Refusal
+use Rattle.rules.specs.declared.Verdict.the-variants as Verdict
+use Rattle.rules.proofs.BoolLaws.{and-left, and-both}
+use Rattle.flow.specs.Does.{Answers}
+use Rattle.intc.specs.Writes.{InWord}
+use Rattle.intc.proofs.ReadLaws.{within-true}
+use Rattle.dma_read.specs.Access.{Fair}
+use Rattle.registers.specs.Asked.{pastEnd, pastPart, readSo, asked}
+
+-- ---- tests
+
+-- what a test of `known` says
+pub unknown : {r b : Bool} → r ≡ not b → r ≡ false → b ≡ true
+unknown {b = true} e f = refl
+unknown {b = false} e f = absurd (let z : _≡_ {A = ℕ} 0 1 = cc in omega arith)
+
+pub known : {r b : Bool} → r ≡ not b → r ≡ true → b ≡ false
+known {b = false} e f = refl
+known {b = true} e f = absurd (let z : _≡_ {A = ℕ} 0 1 = cc in omega arith)
+
+or-last : (a b : Bool) → a || b ≡ false → b ≡ false
+or-last true b h = absurd (let z : _≡_ {A = ℕ} 0 1 = cc in omega arith)
+or-last false b h = h
+
+or-false : (a : Bool) → a || false ≡ a
+or-false true = refl
+or-false false = refl
+
+pub used-fits : (len used : ℕ) {r : Bool} → r ≡ badJournal len used → r ≡ false → used ≤ len
+unfolding badJournal
+used-fits len used e f = ltb-false len used (or-last (ltb (2 ^ 28) len || not (eqb (used % 16) 0)) (ltb len used) (sym e ∙ f))
+
+-- ---- refusal 4, by the offset
+
+module _ (off size : ℕ) where
+  pub fair : badSize size ≡ false → pastEnd off size ≡ false → Fair off size
+  unfolding pastEnd
+  fair s p = record { sized = s; inside = λ e. ltb-false 0x1800 (off + size) (rw e at p) }
+
+  -- in the table there is a register
+  pub end-there : (d : Device) → pastEnd off size ≡ true → isNone (dmaRead d off size) ≡ false
+  unfolding pastEnd dmaRead isNone
+  end-there d p = rw (and-left (inTable off) (ltb 0x1800 (off + size)) p)
+
+  past-within : (lo hi : ℕ) → within lo hi off ≡ false → lo ≤ off → hi < off
+  unfolding within
+  past-within lo hi e h = leb-false off hi (rw (le-leb lo off h) at e)
+
+  pub in-word : pastPart off size ≡ false → InWord off size
+  unfolding pastPart within
+  in-word p l h = ltb-false 4 (off % 4 + size) (rw (le-leb 0x08 off l, le-leb off 0x17 h) at p)
+
+  -- and so there is in 0x08..0x17
+  pub part-there : (c v : ℕ) → pastPart off size ≡ true → isNone (controllerWrite c off size v) ≡ false
+  unfolding pastPart controllerWrite isNone
+  part-there c v p = first (within 0x00 0x07 off) refl
+    where
+      here : (0x08 ≤ off) × (off ≤ 0x17)
+      here = within-true 0x08 0x17 off (and-left (within 0x08 0x17 off) (ltb 4 (off % 4 + size)) p)
+
+      third : within 0x08 0x0F off ≡ false → within 0x10 0x17 off ≡ true
+      third e = let l : 0x0F < off = past-within 0x08 0x0F e (here .0) in unfold within in and-both (le-leb 0x10 off (omega arith)) (le-leb off 0x17 (here .1))
+
+      second : within 0x00 0x07 off ≡ false → (b : Bool) → within 0x08 0x0F off ≡ b → isNone (controllerWrite c off size v) ≡ false
+      second f true e = rw (f, e)
+      second f false e = rw (f, e, third e)
+
+      first : (b : Bool) → within 0x00 0x07 off ≡ b → isNone (controllerWrite c off size v) ≡ false
+      first true e = rw e
+      first false e = second e (within 0x08 0x0F off) refl
+
+-- ---- the number of what is wrong with a write within a block
+
+module _ (does : Option (Act (Unit {0}))) (past bad : Bool) where
+  abbrev number : ℕ
+  number = check (isNone does) 3 (check past 4 (check bad 6 0))
+
+  pub no-register : isNone does ≡ true → number ≡ 3
+  unfolding check
+  no-register e = rw e
+
+  module _ (e : isNone does ≡ false) where
+    pub crossing : past ≡ true → number ≡ 4
+    unfolding check
+    crossing f = rw (e, f)
+
+    module _ (f : past ≡ false) where
+      pub bad-group : bad ≡ true → number ≡ 6
+      unfolding check
+      bad-group g = rw (e, f, g)
+
+      pub nothing-wrong : bad ≡ false → number ≡ 0
+      unfolding check
+      nothing-wrong g = rw (e, f, g)
+
+-- ---- refused, accepted
+
+module _ (m : Act Heard) (base : ℕ) (d : Device) (w staging j : List ℕ) (used : ℕ) where
+  told-no : (why : Refusal) → told (refusalNumber why) Heard.Nothing d w staging j used ≡ asked (refusalNumber why) m base d w staging j used
+  unfolding asked
+  told-no Refusal.Size = refl
+  told-no Refusal.Address = refl
+  told-no Refusal.Register = refl
+  told-no Refusal.Crossing = refl
+  told-no Refusal.Window = refl
+  told-no Refusal.Journal = refl
+  told-no Refusal.Time = refl
+  told-no Refusal.Channel = refl
+  told-no Refusal.Outside = refl
+  told-no Refusal.Staging = refl
+  told-no Refusal.Room = refl
+  told-no Refusal.NothingStands = refl
+  told-no Refusal.Damaged = refl
+
+  pub refuses : (why : Refusal) {n : ℕ} {r : Acted} → r ≡ record { verdict = Verdict.Refused why; used = used; device = d } → n ≡ refusalNumber why
+      → toldActed r w staging j ≡ asked n m base d w staging j used
+  refuses why e f = rw (e, f) (told-no why)
+
+  pub accepts : {n : ℕ} {x : Told} → n ≡ 0 → x ≡ toldAfter staging used (perform base (length staging) m (worldOf d w j used)) → x ≡ asked n m base d w staging j used
+  unfolding asked
+  accepts e q = rw e q
+
+-- a call that leaves staging as it is
+pub asked-after : (c : Asked) (base : ℕ) (d : Device) (w staging j : List ℕ) (used : ℕ) → stagingAfter c staging ≡ staging
+    → asked (wrong base (length w) (length j) used c) (actOf c) base d w staging j used ≡ after c base d w staging j used
+unfolding asked after
+asked-after c base d w staging j used e = by (wrong base (length w) (length j) used c)
+  where
+    by : (n : ℕ) → asked n (actOf c) base d w staging j used ≡ elim n [
+      | zero ↦ toldAfter (stagingAfter c staging) used (perform base (length staging) (actOf c) (worldOf d w j used))
+      | suc k ↦ told (suc k) Heard.Nothing d w staging j used
+    ]
+    by zero = rw e refl
+    by (suc k) = refl
+
+-- ---- write, by the block
+
+module _ (address size v base : ℕ) (d : Device) (w staging j : List ℕ) (used : ℕ) where
+  abbrev off : ℕ
+  off = address % 0x4000
+
+  -- the refusals before a block is known
+  pub write-no : (why : Refusal) {r : Acted} → r ≡ record { verdict = Verdict.Refused why; used = used; device = d }
+      → wrong base (length w) (length j) used (write address size v) ≡ refusalNumber why → toldActed r w staging j ≡ after (write address size v) base d w staging j used
+  unfolding stagingAfter
+  write-no why e f = refuses (actOf (write address size v)) base d w staging j used why e f ∙ asked-after (write address size v) base d w staging j used refl
+
+  pub wrong-size : badSize size ≡ true → wrong base (length w) (length j) used (write address size v) ≡ 1
+  unfolding wrong check
+  wrong-size e = rw e
+
+  module _ (s : badSize size ≡ false) where
+    pub wrong-address : inBlocks address ≡ false → wrong base (length w) (length j) used (write address size v) ≡ 2
+    unfolding wrong check
+    wrong-address e = rw (s, e)
+
+    module _ (b : inBlocks address ≡ true) where
+      pub write-dma-after : blockOf address ≡ 0
+          → asked (number (dmaWrite off size v) (pastEnd off size) (badJournal (length j) used)) (levelled (orNothing (dmaWrite off size v))) base d w staging j used
+          ≡ after (write address size v) base d w staging j used
+      unfolding stagingAfter wrong check actOf writeAt writeIn offsetOf pastTable pastWord pastEnd
+      write-dma-after z = rw (← asked-after (write address size v) base d w staging j used refl, s, b, z, or-false)
+
+      pub write-controller-after : (c : ℕ) → blockOf address ≡ suc c
+          → asked (number (controllerWrite c off size v) (pastPart off size) (badJournal (length j) used)) (levelled (orNothing (controllerWrite c off size v))) base d w staging j used
+          ≡ after (write address size v) base d w staging j used
+      unfolding stagingAfter wrong check actOf writeAt writeIn offsetOf pastTable pastWord pastPart
+      write-controller-after c z =
+          rw (← asked-after (write address size v) base d w staging j used refl, s, b, z, ne-eqb (suc c) 0 (λ e. omega arith), lt-ltb 0 (suc c) (omega arith))
+
+-- ---- read, by the block
+
+module _ (d : Device) (address size : ℕ) where
+  abbrev place : ℕ
+  place = address % 0x4000
+
+  after-read : readSo (wrongRead d address size) (readAt d address size) ≡ afterRead d address size
+  unfolding afterRead readSo
+  after-read = by (wrongRead d address size)
+    where
+      by : (n : ℕ) → readSo n (readAt d address size) ≡ elim n [ zero ↦ toldRead 0 (orZero (readAt d address size)) | suc k ↦ toldRead (suc k) 0 ]
+      by zero = refl
+      by (suc k) = refl
+
+  pub read-no-size : badSize size ≡ true → toldReading (Reading.Refused Refusal.Size) ≡ afterRead d address size
+  unfolding wrongRead check readSo
+  read-no-size e = rw (← after-read, e)
+
+  module _ (s : badSize size ≡ false) where
+    pub read-no-block : inBlocks address ≡ false → toldReading (Reading.Refused Refusal.Address) ≡ afterRead d address size
+    unfolding wrongRead check readSo
+    read-no-block e = rw (← after-read, s, e)
+
+    module _ (b : inBlocks address ≡ true) where
+      pub read-dma-after : blockOf address ≡ 0
+          → readSo (check (isNone (dmaRead d place size)) 3 (check (pastEnd place size) 4 0)) (dmaRead d place size) ≡ afterRead d address size
+      unfolding wrongRead check readAt readIn offsetOf pastTable pastEnd
+      read-dma-after z = rw (← after-read, s, b, z)
+
+      pub read-controller-after : (c : ℕ) → blockOf address ≡ suc c
+          → readSo (check (isNone (readIn d (suc c) place size)) 3 0) (readIn d (suc c) place size) ≡ afterRead d address size
+      unfolding wrongRead check readAt offsetOf pastTable
+      read-controller-after c z = rw (← after-read, s, b, z, ne-eqb (suc c) 0 (λ e. omega arith))
+
+-- ---- acknowledge
+
+pub heard-made : (base : ℕ) (m : Act Heard) (d e : Device) (w staging j : List ℕ) (used : ℕ) (h : Heard) {x : Told} → Answers m d h e
+    → x ≡ toldAfter staging used (leave (worldOf d w j used) (ok h (worldOf e w j used)))
+    → x ≡ toldAfter staging used (perform base (length staging) m (worldOf d w j used))
+unfolding perform Answers
+heard-made base m d e w staging j used h a q = rw (a base (length staging) w (take used j) (drop used j)) q

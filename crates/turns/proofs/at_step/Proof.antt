@@ -1,0 +1,20 @@
+use borrow.Author.Needs.{needs}
+use Rattle.turns.proofs.at_step.Statement.{statement}
+use Rattle.turns.proofs.at_step.Tie as tie
+use Rattle.turns.proofs.at_step.Reads as reads
+use Rattle.turns.proofs.at_step.Lts as lts
+
+enum-known-s : tie.Need-enum-known-s
+enum-known-s c = search needs
+
+enum-known-s-2 : tie.Need-enum-known-s-2
+enum-known-s-2 c = search needs
+
+returns : tie.Need-returns
+returns c = rw (c .before .s .given .1)
+
+returns-2 : tie.Need-returns-2
+returns-2 c = rw (c .before .s2 .given .1)
+
+pub at-step-spec : {M : Type 1} → statement M
+at-step-spec = tie.close (tie.spec enum-known-s enum-known-s-2 returns returns-2)

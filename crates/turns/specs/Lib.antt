@@ -1,0 +1,2 @@
+pub mod Frees
+pub mod Turns

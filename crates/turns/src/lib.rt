@@ -1,0 +1,300 @@
+// Turns: document 01, "Run, service, controllers". A turn, a run of turns, and the release of channels whose busy time is over.
+// Each contract says that the function does the steps of its tree (crate `rules`, specs/Run.antt), whatever the rest of the device is.
+use channel::Line;
+use flow::Flow;
+use flow::Step;
+use rules::Refusal;
+ghost use mathlib.Core.Path.{_≡_};
+ghost use mathlib.Core.List.{List};
+ghost use Prim.Native.Nat.{ℕ, _^_, _≤_, _<_, min};
+ghost use lib.ListN.{length};
+ghost use Rattle.rules.specs.Run.{serveLine, serve, turn, runAll, over};
+ghost use Rattle.turns.specs.Frees.{freed, freeing, Frees};
+ghost use Rattle.turns.specs.Turns.{Turns, atStep};
+
+// ---- a turn
+
+// What a turn changes besides arrays: what a pass does, DEFERRED, the deadline.
+pub struct Course {
+    pub flow: Flow,
+    pub deferred: u64,
+    pub deadline: u64,
+}
+
+// Still going, or refused: once refused, nothing more happens.
+pub enum Turned {
+    On(Course),
+    Off(Refusal, Course),
+}
+
+// The turn with the step that its passes ended with.
+fn at_step(t: Course, s: Step) -> Turned
+    ensures { λ r. ⌜ r ≡ atStep t s ⌝ }
+{
+    match s {
+        Step::Going(flow) => Turned::On(Course {
+            flow,
+            deferred: t.deferred,
+            deadline: t.deadline,
+        }),
+        Step::Refused(n, flow) => Turned::Off(
+            n,
+            Course {
+                flow,
+                deferred: t.deferred,
+                deadline: t.deadline,
+            },
+        ),
+    }
+}
+
+fn earlier(a: u64, b: u64) -> u64
+    ensures { λ r. ⌜ r ≡ min a b ⌝ }
+{
+    if a < b { a } else { b }
+}
+
+// "Then busy until = now + sum x pace, and a deadline later than that falls to it. It spends no pending."
+pub fn serve_line(
+    t: Course,
+    time: u64,
+    pace: u64,
+    window: &mut [u8],
+    base: u32,
+    table: &mut [u8; 2048],
+    majors: &mut [u64; 64],
+    busy: &mut [u64; 64],
+    staging: &mut [u8],
+    journal: &mut [u8],
+) -> Turned
+    requires { ⌜ (time ≤ 2 ^ 62) × (pace ≤ 1000000) ⌝ }
+    ensures { λ r. ⌜ ((p : List ℕ) (standing : ℕ) → Turns (serveLine time pace) base (length (now (staging .entry))) standing t r (now (window .entry)) (now (window .exit)) (now (journal .entry)) (now (journal .exit)) (now (table .entry)) (now (table .exit)) (now (majors .entry)) (now (majors .exit)) p p (now (busy .entry)) (now (busy .exit))) ⌝ }
+{
+    let c = t.flow;
+    let l = channel::line_loop(c, window, base, table, majors, staging, journal);
+    match l {
+        Line::Broken(n, flow) => Turned::Off(
+            n,
+            Course {
+                flow,
+                deferred: t.deferred,
+                deadline: t.deadline,
+            },
+        ),
+        Line::Sum(sum, flow) => {
+            let until = time + sum * pace;
+            busy[35] = until;
+            Turned::On(Course {
+                flow,
+                deferred: t.deferred,
+                deadline: earlier(t.deadline, until),
+            })
+        }
+    }
+}
+
+// "START runs minor loops [..] Otherwise ERQ and a request are needed."
+pub fn serve(
+    t: Course,
+    standing: u64,
+    time: u64,
+    pace: u64,
+    window: &mut [u8],
+    base: u32,
+    table: &mut [u8; 2048],
+    majors: &mut [u64; 64],
+    pending: &mut [u32; 64],
+    busy: &mut [u64; 64],
+    ch: usize,
+    staging: &mut [u8],
+    journal: &mut [u8],
+) -> Turned
+    requires { ⌜ (ch < 64) × (time ≤ 2 ^ 62) × (pace ≤ 1000000) ⌝ }
+    ensures { λ r. ⌜ Turns (serve time pace ch) base (length (now (staging .entry))) standing t r (now (window .entry)) (now (window .exit)) (now (journal .entry)) (now (journal .exit)) (now (table .entry)) (now (table .exit)) (now (majors .entry)) (now (majors .exit)) (now (pending .entry)) (now (pending .exit)) (now (busy .entry)) (now (busy .exit)) ⌝ }
+{
+    let c = t.flow;
+    if words::has_bit(channel::csr_of(table, ch), 0) {
+        let before = majors[ch];
+        let s = channel::start_loop(c, window, base, table, majors, ch, before, staging, journal);
+        return at_step(t, s);
+    }
+    if !channel::offered(c.erq, standing, pending, ch) {
+        return Turned::On(t);
+    }
+    if ch == 35 {
+        return serve_line(
+            t,
+            time,
+            pace,
+            window,
+            base,
+            table,
+            majors,
+            busy,
+            staging,
+            journal,
+        );
+    }
+    let s = channel::request_loop(
+        c,
+        standing,
+        window,
+        base,
+        table,
+        majors,
+        pending,
+        ch,
+        staging,
+        journal,
+    );
+    at_step(t, s)
+}
+
+// The channel "goes first" from KICK. "A channel busy past `now` moves to DEFERRED."
+pub fn turn(
+    t: Course,
+    standing: u64,
+    time: u64,
+    pace: u64,
+    window: &mut [u8],
+    base: u32,
+    table: &mut [u8; 2048],
+    majors: &mut [u64; 64],
+    pending: &mut [u32; 64],
+    busy: &mut [u64; 64],
+    ch: usize,
+    staging: &mut [u8],
+    journal: &mut [u8],
+) -> Turned
+    requires { ⌜ (ch < 64) × (time ≤ 2 ^ 62) × (pace ≤ 1000000) ⌝ }
+    ensures { λ r. ⌜ Turns (turn time pace ch) base (length (now (staging .entry))) standing t r (now (window .entry)) (now (window .exit)) (now (journal .entry)) (now (journal .exit)) (now (table .entry)) (now (table .exit)) (now (majors .entry)) (now (majors .exit)) (now (pending .entry)) (now (pending .exit)) (now (busy .entry)) (now (busy .exit)) ⌝ }
+{
+    let c = t.flow;
+    let flow = Flow {
+        cr: c.cr,
+        erq: c.erq,
+        int: c.int,
+        kick: words::lose_bit(c.kick, ch),
+        at: c.at,
+    };
+    if time < busy[ch] {
+        return Turned::On(Course {
+            flow,
+            deferred: words::gain_bit(t.deferred, ch),
+            deadline: t.deadline,
+        });
+    }
+    let now = Course {
+        flow,
+        deferred: t.deferred,
+        deadline: t.deadline,
+    };
+    serve(
+        now,
+        standing,
+        time,
+        pace,
+        window,
+        base,
+        table,
+        majors,
+        pending,
+        busy,
+        ch,
+        staging,
+        journal,
+    )
+}
+
+// ---- a run of turns
+
+// "At most 4,096 turns: the lowest set bit of KICK is served next and goes first."
+pub fn run_dma_inner(
+    t: Course,
+    standing: u64,
+    time: u64,
+    pace: u64,
+    window: &mut [u8],
+    base: u32,
+    table: &mut [u8; 2048],
+    majors: &mut [u64; 64],
+    pending: &mut [u32; 64],
+    busy: &mut [u64; 64],
+    staging: &mut [u8],
+    journal: &mut [u8],
+) -> Turned
+    requires { ⌜ (time ≤ 2 ^ 62) × (pace ≤ 1000000) ⌝ }
+    ensures { λ r. ⌜ Turns (runAll time pace) base (length (now (staging .entry))) standing t r (now (window .entry)) (now (window .exit)) (now (journal .entry)) (now (journal .exit)) (now (table .entry)) (now (table .exit)) (now (majors .entry)) (now (majors .exit)) (now (pending .entry)) (now (pending .exit)) (now (busy .entry)) (now (busy .exit)) ⌝ }
+{
+    let mut s = t;
+    let mut left: usize = 4096;
+    while 0 < left {
+        let c = s.flow;
+        let kick = c.kick;
+        if kick == 0 {
+            return Turned::On(s);
+        }
+        let ch = words::lowest_bit(kick);
+        let r = turn(
+            s,
+            standing,
+            time,
+            pace,
+            window,
+            base,
+            table,
+            majors,
+            pending,
+            busy,
+            ch,
+            staging,
+            journal,
+        );
+        let Turned::On(next) = r else {
+            return r;
+        };
+        s = next;
+        left -= 1;
+    }
+    Turned::On(s)
+}
+
+// ---- channels whose busy time is over
+
+// "Each busy time that is not 0 and not past `now`".
+fn over(time: u64, until: u64) -> bool
+    ensures { λ r. ⌜ r ≡ over time until ⌝ }
+{
+    if until == 0 {
+        return false;
+    }
+    until <= time
+}
+
+// Such a busy time "becomes 0"; a channel "with ERQ set" joins the mask.
+fn release_one(time: u64, erq: u64, busy: &mut [u64; 64], ch: usize, m: u64) -> u64
+    requires { ⌜ ch < 64 ⌝ }
+    ensures { λ r. ⌜ (r ≡ freeing time erq (now (busy .entry)) ch m) × (now (busy .exit) ≡ freed time (now (busy .entry)) ch) ⌝ }
+{
+    if !over(time, busy[ch]) {
+        return m;
+    }
+    busy[ch] = 0;
+    if !words::has_bit(erq, ch) {
+        return m;
+    }
+    words::gain_bit(m, ch)
+}
+
+// All of them, and "those channels with ERQ set".
+pub fn release(time: u64, erq: u64, busy: &mut [u64; 64]) -> u64
+    ensures { λ r. ⌜ Frees time erq r (now (busy .entry)) (now (busy .exit)) ⌝ }
+{
+    let mut m = 0;
+    let mut ch = 0;
+    while ch < 64 {
+        m = release_one(time, erq, busy, ch, m);
+        ch += 1;
+    }
+    m
+}

@@ -1,0 +1,119 @@
+/* Kounpheray: a DMA engine of 64 channels with its registers and three
+ * interrupt controllers, that can step back. The C entries of its archive,
+ * libentries.a, for x86-64. docs/ABI.md says the same with more words.
+ *
+ * Every entry is total: whatever it is given, it reads and writes nothing but
+ * the bytes it is lent, keeps no pointer, and returns. Nothing is allocated.
+ * The byte ranges of one call must not overlap. A pointer must not be NULL; a
+ * range of length 0 may have any other pointer.
+ *
+ * The caller owns the device image, the window (a part of the guest's memory,
+ * whose first byte has the address `base`), the staging (room for passes whose
+ * sizes differ) and the journal with its used length. After a refusal image,
+ * window and used journal are as they were. */
+#ifndef KOUNPHERAY_H
+#define KOUNPHERAY_H
+
+#include <stddef.h>
+#include <stdint.h>
+
+#ifdef __cplusplus
+extern "C" {
+#endif
+
+/* The length of a device image. */
+#define KP_IMAGE 8720
+
+/* The length of a journal record; used lengths are multiples of it. */
+#define KP_RECORD 16
+
+/* The blocks of the registers, 0x4000 bytes each. */
+#define KP_DMA 0xFC044000u
+#define KP_TABLE 0xFC045000u /* 64 descriptors of 32 bytes, in the DMA's block */
+#define KP_CONTROLLER(n) (0xFC048000u + 0x4000u * (n)) /* n: 0, 1 or 2 */
+
+/* The status in an answer: 0 where the call was accepted, else a refusal.
+ * Refusals 1 to 8 are looked for first, in this order. */
+enum kp_status {
+    KP_ACCEPTED = 0,
+    KP_SIZE = 1,           /* size is not 1, 2 or 4 */
+    KP_ADDRESS = 2,        /* address in none of the four blocks */
+    KP_NO_REGISTER = 3,    /* no such register at that offset and size */
+    KP_PAST_END = 4,       /* access past the table, or past a controller's word */
+    KP_WINDOW = 5,         /* window empty, above 2^24 bytes, or past 2^32 */
+    KP_JOURNAL = 6,        /* journal above 2^28 bytes, or a bad used length */
+    KP_TIME = 7,           /* now above 2^62 or pace above 1,000,000 */
+    KP_CHANNEL = 8,        /* channel above 63 */
+    KP_OUTSIDE_WINDOW = 9, /* a byte of a transfer outside the window */
+    KP_STAGING = 10,       /* a pass reads more bytes than staging has */
+    KP_JOURNAL_FULL = 11,  /* the next record doesn't fit */
+    KP_NOTHING = 12,       /* take back with used length 0 */
+    KP_DAMAGED = 13,       /* take back: the last group is damaged */
+    KP_NOT_A_DEVICE = 255  /* the image is not a device; looked for before all */
+};
+
+/* An answer, taken apart. */
+static inline unsigned kp_status(uint64_t answer) { return (unsigned)(answer >> 56); }
+
+/* The level of the interrupt that an acknowledge took; 0 if there was none. */
+static inline unsigned kp_level(uint64_t answer) { return (unsigned)(answer >> 40) & 0xFFu; }
+
+/* Its vector. */
+static inline unsigned kp_vector(uint64_t answer) { return (unsigned)(answer >> 32) & 0xFFu; }
+
+/* The value after kp_read; after every other call the used length of the
+ * journal, which is the one given where the call was refused. */
+static inline uint32_t kp_low(uint64_t answer) { return (uint32_t)answer; }
+
+/* Makes a fresh device: zero in every field but the masks (all ones) and the
+ * deadline (2^64 - 1). ignore_masks: 0, or 1 for a device whose controllers
+ * ignore their masks. */
+uint64_t kp_fresh(uint8_t *image, size_t image_len, uint32_t ignore_masks);
+
+/* Reads a register. Writes nothing. */
+uint64_t kp_read(const uint8_t *image, size_t image_len, uint32_t address, uint32_t size);
+
+/* The acts. Each that is accepted writes one group behind the used part of
+ * the journal and answers the new used length. */
+
+/* Writes a register. */
+uint64_t kp_write(uint8_t *image, size_t image_len, uint32_t address, uint32_t size,
+                  uint32_t value, uint8_t *journal, size_t journal_len, uint64_t used);
+
+/* Puts the standing requests (one bit for each channel) and the lines of the
+ * three controllers; lines that the DMA drives stay as they are. Requesting
+ * channels with their ERQ bit set then have work waiting. */
+uint64_t kp_inputs(uint8_t *image, size_t image_len, uint64_t standing, uint64_t lines0,
+                   uint64_t lines1, uint64_t lines2, uint8_t *journal, size_t journal_len,
+                   uint64_t used);
+
+/* Stores a pending count for one channel. */
+uint64_t kp_pending(uint8_t *image, size_t image_len, uint32_t channel, uint32_t count,
+                    uint8_t *journal, size_t journal_len, uint64_t used);
+
+/* Runs every channel with work waiting. Staging is all zero afterwards, but
+ * after refusals 5, 6, 7 and 255, which leave it alone. */
+uint64_t kp_run(uint8_t *image, size_t image_len, uint64_t now, uint64_t pace, uint32_t base,
+                uint8_t *window, size_t window_len, uint8_t *staging, size_t staging_len,
+                uint8_t *journal, size_t journal_len, uint64_t used);
+
+/* Offers busy and deferred channels again, and runs. */
+uint64_t kp_service(uint8_t *image, size_t image_len, uint64_t now, uint64_t pace, uint32_t base,
+                    uint8_t *window, size_t window_len, uint8_t *staging, size_t staging_len,
+                    uint8_t *journal, size_t journal_len, uint64_t used);
+
+/* Takes the highest interrupt above `ipl` (its low byte counts); level 7 is
+ * never held back. An act even where nothing is found. */
+uint64_t kp_acknowledge(uint8_t *image, size_t image_len, uint32_t ipl, uint8_t *journal,
+                        size_t journal_len, uint64_t used);
+
+/* Undoes the last standing act: no act itself. Its group's bytes are zero
+ * afterwards, and the used length is that before the act. */
+uint64_t kp_take_back(uint8_t *image, size_t image_len, uint32_t base, uint8_t *window,
+                      size_t window_len, uint8_t *journal, size_t journal_len, uint64_t used);
+
+#ifdef __cplusplus
+}
+#endif
+
+#endif
