@@ -1,0 +1,59 @@
+-- The public calls: refused by 5, 6 or 7, or carried out. Assumes nothing.
+use mathlib.Core.List.{List}
+use mathlib.Core.Path.{_≡_, refl, sym, ap, _∙_}
+use Prim.Native.Nat.{ℕ, zero, suc, _<_}
+use native.Mathlib.Omega.{arith}
+use lib.Dec.{lit<}
+use lib.ListN.{length, replicate}
+use Rattle.rules.specs.Calls.{Asked, run, service, Told, told, refusalNumber, verdictNumber, levelled, actOf, wrong, stagingAfter, worldOf, toldAfter, after}
+use Rattle.rules.specs.Carry.{perform}
+use Rattle.rules.specs.Run.{runAll, serviceAll}
+use Rattle.rules.specs.declared.Device.{Device}
+use Rattle.rules.specs.declared.Heard.the-variants as Heard
+use Rattle.rules.specs.declared.Refusal.{Refusal}
+use Rattle.rules.specs.declared.Refusal.the-variants as Refusal
+use Rattle.rules.specs.declared.Verdict.{Verdict}
+use Rattle.rules.specs.declared.Verdict.the-variants as Verdict
+use Rattle.rules.proofs.CallLaws.{act-wrong}
+
+-- a refusal's number is not 0
+numbered : (n : Refusal) → 0 < refusalNumber n
+numbered Refusal.Size = lit< tt
+numbered Refusal.Address = lit< tt
+numbered Refusal.Register = lit< tt
+numbered Refusal.Crossing = lit< tt
+numbered Refusal.Window = lit< tt
+numbered Refusal.Journal = lit< tt
+numbered Refusal.Time = lit< tt
+numbered Refusal.Channel = lit< tt
+numbered Refusal.Outside = lit< tt
+numbered Refusal.Staging = lit< tt
+numbered Refusal.Room = lit< tt
+numbered Refusal.NothingStands = lit< tt
+numbered Refusal.Damaged = lit< tt
+
+pub service-wrong : (base window journal used time pace : ℕ) → wrong base window journal used (service time pace) ≡ wrong base window journal used (run time pace)
+unfolding wrong
+service-wrong base window journal used time pace = refl
+
+module _ (base : ℕ) (d : Device) (w s j : List ℕ) (used : ℕ) where
+  told-wrong : (c : Asked) (x : ℕ) → 0 < x → wrong base (length w) (length j) used c ≡ x → told x Heard.Nothing d w s j used ≡ after c base d w s j used
+  told-wrong c zero h e = absurd (omega arith)
+  told-wrong c (suc n) h e = sym (act-wrong base d w j used n c s e)
+
+  pub refused-told : (c : Asked) (v : Verdict) → verdictNumber v ≡ wrong base (length w) (length j) used c → {n : Refusal} → v ≡ Verdict.Refused n
+      → told (verdictNumber v) Heard.Nothing d w s j used ≡ after c base d w s j used
+  refused-told c v e {n} h = told-wrong c (verdictNumber v) (rw (ap verdictNumber h) (numbered n)) (sym e)
+
+  module _ (time pace : ℕ) (x : Told) where
+    pub run-told : wrong base (length w) (length j) used (run time pace) ≡ 0
+        → x ≡ toldAfter (replicate (length s) 0) used (perform base (length s) (levelled (runAll time pace)) (worldOf d w j used))
+        → x ≡ after (run time pace) base d w s j used
+    unfolding after stagingAfter actOf
+    run-told e q = q ∙ sym (rw (e, after))
+
+    pub service-told : wrong base (length w) (length j) used (service time pace) ≡ 0
+        → x ≡ toldAfter (replicate (length s) 0) used (perform base (length s) (levelled (serviceAll time pace)) (worldOf d w j used))
+        → x ≡ after (service time pace) base d w s j used
+    unfolding after stagingAfter actOf
+    service-told e q = q ∙ sym (rw (e, after))

@@ -1,0 +1,18 @@
+use borrow.Author.Needs.{needs}
+use Rattle.engine.proofs.verdict_of.Statement.{statement}
+use Rattle.engine.proofs.verdict_of.Tie as tie
+
+enum-told : tie.Need-enum-told
+enum-told c = search needs
+
+enum-known-s : tie.Need-enum-known-s
+enum-known-s c = search needs
+
+returns : tie.Need-returns
+returns c = search needs
+
+returns-2 : tie.Need-returns-2
+returns-2 c = rw (c .before .s .given .1)
+
+pub verdict-of-spec : {M : Type 1} → statement M
+verdict-of-spec = tie.close (tie.spec enum-told enum-known-s returns returns-2)
