@@ -10,7 +10,7 @@ use lib.Seq.{take-all, take-take, drop-length, length-take-le}
 use borrow.Author.Tests.{leb-true, leb-false}
 use Rattle.rules.specs.Act.{Act, done, _>>_}
 use Rattle.rules.specs.Calls.{Told, told, toldActed, toldAfter, refusalNumber, worldOf, levelled}
-use Rattle.rules.specs.Carry.{World, Out, After, unmade, ok, no, cleared, go, leave, perform}
+use Rattle.rules.specs.Carry.{World, Out, unmade, ok, no, cleared, go, leave, perform}
 use Rattle.rules.specs.Fields.{fieldsOf}
 use Rattle.rules.specs.Lines.{relevel}
 use Rattle.rules.specs.declared.Acted.{Acted}
@@ -23,7 +23,7 @@ use Rattle.rules.specs.declared.Verdict.the-variants as Verdict
 use Rattle.rules.proofs.Each.{Each, Properly, typed-proper}
 use Rattle.rules.proofs.Grown.{Longer, Grown, go-grows, journal-grows}
 use Rattle.rules.proofs.Keeps.{AtEnd}
-use Rattle.rules.proofs.Spares.{sparing, SameArrays, spares, levelled-spares}
+use Rattle.rules.proofs.Spares.{sparing, SameArrays, spares}
 use Rattle.rules.proofs.Steps.{then-ok, then-no}
 use Rattle.rules.proofs.Typed.{Typed}
 use Rattle.flow.specs.Does.{Answers, Does}

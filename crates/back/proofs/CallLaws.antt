@@ -67,18 +67,19 @@ module _ (base : ℕ) (d : Device) (w j : List ℕ) (used : ℕ) where
             → toldActed r w [] j ≡ afterBack base d w j used
         is-damaged e h = rw h (unmade-as 13 ((rw e at found) d (drop used j) long))
 
-        pub accepted : {from n : ℕ} {after : Device} {w′ j′ : List ℕ} → s ≡ Group from n
+        pub accepted : {from n : ℕ} {after : Device} {w′ j′ : List ℕ} {r : Acted} → s ≡ Group from n
             → machine w′ after ≡ undo base (decodeAll n (drop from (take used j))) (machine w d)
             → j′ ≡ take from j ++ replicate (used - from) 0 ++ drop used j
-            → told 0 Heard.Nothing after w′ [] j′ from ≡ afterBack base d w j used
+            → r ≡ record { verdict = Verdict.Accepted; used = from; device = after }
+            → toldActed r w′ [] j′ ≡ afterBack base d w j used
         unfolding toldAfter heardNothing
-        accepted {from} e undone cleared =
+        accepted {from} e undone cleared h =
             let group = rw e at found in
             let all : length (take used j) ≡ used = length-take-le used j (used-fits (length j) used journal-fine) in
             let some : from ≤ used = omega (arith, group .0 .long) in
             let kept : length (take from (take used j)) ≡ from = length-take-le from (take used j) (omega arith) in
             let joined = append-assoc (take from j) (replicate (used - from) 0) (drop used j) in
-            rw cleared (sym (tested ∙ rw (group .1 d (drop used j) long, ← undone, kept, all, take-take from used j some, joined)))
+            rw (h, cleared) (sym (tested ∙ rw (group .1 d (drop used j) long, ← undone, kept, all, take-take from used j some, joined)))
 
 -- of a group that stands the bytes are there, and it is sound
 pub group-stands : {base : ℕ} {w used : List ℕ} {s : Standing} {from n : ℕ} → Finds base w used s → s ≡ Group from n → Sound base w used from n

@@ -1,17 +1,18 @@
 -- One sound record undone, by its kind; a group's records undone in turn, last to first. Assumes nothing.
-use mathlib.Core.Bool.{true, _&&_, false≢true}
+use mathlib.Core.Bool.{true, false, _&&_, false≢true}
 use mathlib.Core.List.{List}
+use mathlib.Core.Option.{Option, none, some}
 use mathlib.Core.Path.{_≡_, refl, sym, ap, _∙_}
 use Prim.Native.Nat.{ℕ, zero, suc, _+_, _-_, _*_, _^_, _≤_, _<_}
 use native.Mathlib.Omega.{arith}
-use borrow.Author.Tests.{leb-true}
+use borrow.Author.Tests.{leb-true, ltb-true, ltb-false}
 use lib.Dec.{eqb, leb, ltb}
 use lib.ListN.{length, take, drop}
 use lib.Seq.{drop-drop}
-use Rattle.rules.specs.Act.{Space, window, table}
+use Rattle.rules.specs.Act.{Space, window, table, Field, CR, ERQ, EEI, INT, ERR, KICK, DEFERRED, DEADLINE, LEVEL, STANDING, MASKS, FORCED, LINES, CONFIG, BUSY, MAJORS, PENDING, SOURCE, TAKEN}
 use Rattle.rules.specs.Bytes.{number, bytes, part, splice}
-use Rattle.rules.specs.Carry.{Machine, stoodIn, legal, there, bytesOf, withBytesOf, withDevice, indexOf, stored, undoRec, undo}
-use Rattle.rules.specs.Fields.{fieldAt, fitsSome, withNumber}
+use Rattle.rules.specs.Carry.{Machine, Rec, stoodAt, stoodIn, legal, there, bytesOf, withBytesOf, withDevice, indexOf, stored, undoRec, undo}
+use Rattle.rules.specs.Fields.{fieldAt, fitsSome, withField, withSome, withNumber}
 use Rattle.rules.specs.TakeBack.{kind, width, place, value, marked, soundStore, soundField, soundKind, sound, allSound, recOf, decode, decodeAll}
 use Rattle.rules.specs.With.{withTable}
 use Rattle.rules.specs.declared.Device.{Device}
@@ -21,7 +22,7 @@ use Rattle.rules.proofs.Cut.{part-cut}
 use Rattle.journal.specs.Places.{holding}
 use Rattle.scan.proofs.HeadLaws.{number-one}
 use Rattle.scan.proofs.Laws.{sound-same, table-holding}
-use Rattle.back.specs.Standing.{machine}
+use Rattle.back.specs.Standing.{machine, undoStore, undoField, UndoesStore}
 
 -- ---- one record: what the code reads of it, and that it is sound
 
@@ -69,34 +70,106 @@ module _ (base : ℕ) (w j : List ℕ) (at : ℕ) {k n a v : ℕ}
           let s = store-legal base (holding w) table n a v (rw e at kind-fair) in
           (omega (arith, table-holding w, leb-true (a + n) (length (holding w .dev .table)) (s .1)), s .0)
 
-      pub field-fair : (k ≡ 0 → ⊥) → (k ≡ 1 → ⊥) → fitsSome (fieldAt a) v ≡ true
-      unfolding soundKind soundField
-      field-fair n₀ n₁ = by k refl kind-fair
-        where
-          by : (i : ℕ) → k ≡ i → soundKind base (holding w) i n a v ≡ true → fitsSome (fieldAt a) v ≡ true
-          by zero e s = absurd (n₀ e)
-          by (suc zero) e s = absurd (n₁ e)
-          by (suc (suc zero)) e s = and-right (eqb n 8) (fitsSome (fieldAt a) v) s
-          by (suc (suc (suc i))) e s = absurd (false≢true s)
+    -- undone in the window w and a table t
+    module _ (t : List ℕ) where
+      pub memory-undone : k ≡ 0 → {w′ : List ℕ} → w′ ≡ splice w (a - base) (bytes n v) → UndoesStore base (decode (part j at 16)) w t w′ t
+      unfolding recOf undoStore undoRec stored withBytesOf bytesOf indexOf
+      memory-undone e h d = rw (record-is, e, h)
 
-    -- undone, by its kind
-    module _ (d : Device) where
-      pub memory-undone : k ≡ 0 → {w′ : List ℕ} → w′ ≡ splice w (a - base) (bytes n v) → machine w′ d ≡ undoRec base (decode (part j at 16)) (machine w d)
-      unfolding recOf undoRec stored withBytesOf bytesOf indexOf
-      memory-undone e h = rw (record-is, e, h)
+      pub table-undone : k ≡ 1 → {t′ : List ℕ} → t′ ≡ splice t a (bytes n v) → UndoesStore base (decode (part j at 16)) w t w t′
+      unfolding recOf undoStore undoRec stored withBytesOf bytesOf indexOf
+      table-undone e h d = rw (record-is, e, h)
 
-      pub table-undone : k ≡ 1 → {r : Device} → r ≡ withTable d (splice (d .table) a (bytes n v)) → machine w r ≡ undoRec base (decode (part j at 16)) (machine w d)
-      unfolding recOf undoRec stored withBytesOf bytesOf indexOf
-      table-undone e h = rw (record-is, e, h)
-
-      pub field-undone : (k ≡ 0 → ⊥) → (k ≡ 1 → ⊥) → {r : Device} → r ≡ withNumber a v d → machine w r ≡ undoRec base (decode (part j at 16)) (machine w d)
-      unfolding recOf undoRec withDevice
-      field-undone n₀ n₁ h = rw (record-is, by k refl, h)
+      pub none-undone : (k ≡ 0 → ⊥) → (k ≡ 1 → ⊥) → UndoesStore base (decode (part j at 16)) w t w t
+      unfolding recOf undoStore
+      none-undone n₀ n₁ d = rw (record-is, by k refl)
         where
           by : (i : ℕ) → k ≡ i → recOf i n a v ≡ stoodIn a v
           by zero e = absurd (n₀ e)
           by (suc zero) e = absurd (n₁ e)
           by (suc (suc i)) e = refl
+
+-- ---- the record of a field
+
+module _ (j : List ℕ) (at : ℕ) where
+  pub kind-at : {k : ℕ} → k ≡ number (part j (at + 2) 1) → ltb 1 k ≡ ltb 1 (kind (part j at 16))
+  kind-at e = ap (ltb 1) (e ∙ number-one j (at + 2) ∙ sym (getD-part j at 16 2 (omega arith)))
+
+  pub place-at : {a : ℕ} → a ≡ number (part j (at + 4) 4) → a ≡ place (part j at 16)
+  unfolding place
+  place-at e = e ∙ ap number (sym (part-part j at 16 4 4 (omega arith)))
+
+  pub value-at : {v : ℕ} → v ≡ number (part j (at + 8) 8) → v ≡ value (part j at 16)
+  unfolding value
+  value-at e = e ∙ ap number (sym (part-part j at 16 8 8 (omega arith)))
+
+past-stores : (k : ℕ) → ltb 1 k ≡ true → (k ≡ 0 → ⊥) × (k ≡ 1 → ⊥)
+past-stores k h = (λ e. omega (arith, ltb-true 1 k h, e), λ e. omega (arith, ltb-true 1 k h, e))
+
+module _ (base : ℕ) (m : Machine) (b : List ℕ) where
+  pub field-held : sound base m b ≡ true → ltb 1 (kind b) ≡ true → fitsSome (fieldAt (place b)) (value b) ≡ true
+  unfolding sound soundKind soundField
+  field-held fair h =
+      by (kind b) (past-stores (kind b) h .0) (past-stores (kind b) h .1) (and-right (marked b) (soundKind base m (kind b) (width b) (place b) (value b)) fair)
+    where
+      by : (i : ℕ) → (i ≡ 0 → ⊥) → (i ≡ 1 → ⊥) → soundKind base m i (width b) (place b) (value b) ≡ true → fitsSome (fieldAt (place b)) (value b) ≡ true
+      by zero n₀ n₁ s = absurd (n₀ refl)
+      by (suc zero) n₀ n₁ s = absurd (n₁ refl)
+      by (suc (suc zero)) n₀ n₁ s = and-right (eqb (width b) 8) (fitsSome (fieldAt (place b)) (value b)) s
+      by (suc (suc (suc i))) n₀ n₁ s = absurd (false≢true s)
+
+module _ (b : List ℕ) (d : Device) {r : Device} where
+  pub field-so : ltb 1 (kind b) ≡ true → r ≡ withNumber (place b) (value b) d → r ≡ undoField (decode b) d
+  unfolding decode recOf undoField
+  field-so h e = e ∙ by (kind b) (past-stores (kind b) h .0) (past-stores (kind b) h .1)
+    where
+      by : (i : ℕ) → (i ≡ 0 → ⊥) → (i ≡ 1 → ⊥) → withNumber (place b) (value b) d ≡ undoField (recOf i (width b) (place b) (value b)) d
+      by zero n₀ n₁ = absurd (n₀ refl)
+      by (suc zero) n₀ n₁ = absurd (n₁ refl)
+      by (suc (suc i)) n₀ n₁ = refl
+
+  pub store-so : ltb 1 (kind b) ≡ false → r ≡ d → r ≡ undoField (decode b) d
+  unfolding decode recOf undoField
+  store-so h e = e ∙ by (kind b) (ltb-false 1 (kind b) h)
+    where
+      by : (i : ℕ) → i ≤ 1 → d ≡ undoField (recOf i (width b) (place b) (value b)) d
+      by zero l = refl
+      by (suc zero) l = refl
+      by (suc (suc i)) l = absurd (omega arith)
+
+-- a field and the table are apart
+apart : (f : Field) (v : ℕ) (d : Device) (t : List ℕ) → withTable (withField f v d) t ≡ withField f v (withTable d t)
+apart CR v d t = refl
+apart ERQ v d t = refl
+apart EEI v d t = refl
+apart INT v d t = refl
+apart ERR v d t = refl
+apart KICK v d t = refl
+apart DEFERRED v d t = refl
+apart DEADLINE v d t = refl
+apart LEVEL v d t = refl
+apart STANDING v d t = refl
+apart (MASKS c) v d t = refl
+apart (FORCED c) v d t = refl
+apart (LINES c) v d t = refl
+apart (CONFIG c) v d t = refl
+apart (BUSY ch) v d t = refl
+apart (MAJORS ch) v d t = refl
+apart (PENDING ch) v d t = refl
+apart (SOURCE c s) v d t = refl
+apart (TAKEN i) v d t = refl
+
+some-apart : (o : Option Field) (v : ℕ) (d : Device) (t : List ℕ) → withTable (withSome o v d) t ≡ withSome o v (withTable d t)
+some-apart none v d t = refl
+some-apart (some f) v d t = apart f v d t
+
+-- store and field undone apart are the record undone
+pub both-undone : (base : ℕ) (r : Rec) (w t w′ t′ : List ℕ) (d : Device) {e : Device} → UndoesStore base r w t w′ t′ → e ≡ undoField r d
+    → machine w′ (withTable e t′) ≡ undoRec base r (machine w (withTable d t))
+unfolding undoStore undoField
+both-undone base (stoodAt sp a n v) w t w′ t′ d {e} s f = s e ∙ ap (λ (x : Device). undoRec base (stoodAt sp a n v) (machine w (withTable x t))) f
+both-undone base (stoodIn n v) w t w′ t′ d {e} s f =
+    s e ∙ ap (λ (x : Device). machine w (withTable x t)) f ∙ (unfold undoRec withDevice in ap (machine w) (some-apart (fieldAt n) v d t))
 
 -- ---- records in turn
 

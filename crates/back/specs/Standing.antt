@@ -4,8 +4,10 @@ use mathlib.Core.List.{List, _++_}
 use mathlib.Core.Path.{_≡_}
 use Prim.Native.Nat.{ℕ, _+_, _-_, _*_}
 use lib.ListN.{length, take, drop, replicate}
-use Rattle.rules.specs.Carry.{Machine, World, made, unmade, undo}
+use Rattle.rules.specs.Carry.{Machine, World, Rec, stoodAt, stoodIn, made, unmade, undoRec, undo}
+use Rattle.rules.specs.Fields.{withNumber}
 use Rattle.rules.specs.TakeBack.{allSound, decodeAll, takeBack}
+use Rattle.rules.specs.With.{withTable}
 use Rattle.rules.specs.declared.Device.{Device}
 use Rattle.journal.specs.Places.{holding}
 use Rattle.back.specs.declared.Standing.{Standing}
@@ -40,3 +42,16 @@ Finds base w used (Group from n) =
 Finds base w used Damaged =
     (d : Device) (free : List ℕ) → length (d .table) ≡ 2048
     → takeBack base (standing (machine w d) used free) ≡ unmade 13 (standing (machine w d) used free)
+
+-- a record undone where it is a store's, and nothing done where it is a field's; and the other way round
+unfoldable pub undoStore : ℕ → Rec → Machine → Machine
+undoStore base (stoodAt sp a n v) m = undoRec base (stoodAt sp a n v) m
+undoStore base (stoodIn n v) m = m
+
+unfoldable pub undoField : Rec → Device → Device
+undoField (stoodAt sp a n v) d = d
+undoField (stoodIn n v) d = withNumber n v d
+
+-- window and table before and after the record of a store was undone, for every device that holds the table
+abbrev pub UndoesStore : ℕ → Rec → List ℕ → List ℕ → List ℕ → List ℕ → Type 0
+UndoesStore base r w t w′ t′ = (e : Device) → machine w′ (withTable e t′) ≡ undoStore base r (machine w (withTable e t))

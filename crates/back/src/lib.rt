@@ -9,15 +9,16 @@ ghost use mathlib.Core.Bool.{true};
 ghost use mathlib.Core.List.{[]};
 ghost use Prim.Native.Nat.{_+_, _-_, _*_, _≤_};
 ghost use lib.ListN.{length, drop};
-ghost use Rattle.rules.specs.Act.{window as inWindow, table as inTable};
+ghost use lib.Dec.{ltb};
+ghost use Rattle.rules.specs.Act.{window as inWindow};
 ghost use Rattle.rules.specs.Bytes.{bytes, part, splice};
 ghost use Rattle.rules.specs.Calls.{afterBack, toldActed};
-ghost use Rattle.rules.specs.Carry.{legal, undo, undoRec};
-ghost use Rattle.rules.specs.TakeBack.{ends, sound, allSound, decode, decodeAll};
-ghost use Rattle.rules.specs.With.{withTable};
+ghost use Rattle.rules.specs.Carry.{legal, undo};
+ghost use Rattle.rules.specs.Fields.{fieldAt, fitsSome, withNumber};
+ghost use Rattle.rules.specs.TakeBack.{ends, kind, place, value, sound, allSound, decode, decodeAll};
 ghost use Rattle.rules.specs.declared.Verdict.the-variants as How;
 ghost use Rattle.journal.specs.Places.{holding};
-ghost use Rattle.back.specs.Standing.{Finds, machine};
+ghost use Rattle.back.specs.Standing.{Finds, machine, UndoesStore};
 
 // What stands last in the used journal: a sound group, where it starts and how many records it has before its end; or damage.
 enum Standing {
@@ -77,38 +78,41 @@ fn undo_memory(window: &mut [u8], base: u32, place: u32, width: usize, old: u64)
     journal::put_width(window, i, width, old);
 }
 
-// The old value of a descriptor record is laid over the table again.
-fn undo_table(d: Device, place: usize, width: usize, old: u64) -> Device
-    requires { ⌜ (place + width ≤ 2048) × (legal inTable width ≡ true) ⌝ }
-    ensures { λ r. ⌜ r ≡ withTable d (splice (d .table) place (bytes width old)) ⌝ }
-{
-    let mut t = d.table;
-    journal::put_width(&mut t, place, width, old);
-    let mut e = d;
-    e.table = t;
-    e
-}
-
-// One record undone, by its kind: in the window, in the table, or in the field of a number.
-fn undo_record(d: Device, base: u32, window: &mut [u8], stands: &[u8], at: usize) -> Device
+// The record of a store undone, in the window or in the table; a field's record changes neither.
+fn undo_store(base: u32, window: &mut [u8], table: &mut [u8; 2048], stands: &[u8], at: usize)
     requires { ⌜ (at + 16 ≤ length (now stands)) × (sound base (holding (now window)) (part (now stands) at 16) ≡ true) ⌝ }
-    ensures { λ r. ⌜ machine (now (window .exit)) r ≡ undoRec base (decode (part (now (stands .entry)) at 16)) (machine (now (window .entry)) d) ⌝ }
+    ensures { λ _. ⌜ UndoesStore base (decode (part (now (stands .entry)) at 16)) (now (window .entry)) (now (table .entry)) (now (window .exit)) (now (table .exit)) ⌝ }
 {
     let kind = words::get1(stands, at + 2);
     let width = words::get1(stands, at + 3) as usize;
     let place = words::get4(stands, at + 4);
     let old = words::get8(stands, at + 8);
     match kind {
-        0 => {
-            undo_memory(window, base, place, width, old);
-            d
-        }
-        1 => undo_table(d, place as usize, width, old),
-        _ => device::with_number(d, place as usize, old),
+        0 => undo_memory(window, base, place, width, old),
+        1 => journal::put_width(table, place as usize, width, old),
+        _ => (),
     }
 }
 
-// "Undoing goes last to first": the `count` records from `from` on.
+// "Kind 2: field": a sound record that is no store's.
+fn is_field(stands: &[u8], at: usize) -> bool
+    requires { ⌜ at + 16 ≤ length (now stands) ⌝ }
+    ensures { λ r. ⌜ r ≡ ltb 1 (kind (part (now (stands .entry)) at 16)) ⌝ }
+{
+    1 < words::get1(stands, at + 2)
+}
+
+// The record of a field undone.
+fn undo_field(d: Device, stands: &[u8], at: usize) -> Device
+    requires { ⌜ (at + 16 ≤ length (now stands)) × (fitsSome (fieldAt (place (part (now stands) at 16))) (value (part (now stands) at 16)) ≡ true) ⌝ }
+    ensures { λ r. ⌜ r ≡ withNumber (place (part (now (stands .entry)) at 16)) (value (part (now (stands .entry)) at 16)) d ⌝ }
+{
+    let n = words::get4(stands, at + 4) as usize;
+    device::with_number(d, n, words::get8(stands, at + 8))
+}
+
+// "Undoing goes last to first": the `count` records from `from` on. The table is taken out once and put back once, and the device is touched
+// only where a field's record is undone: the records of stores, which may be a million, don't copy it.
 fn undo_group(
     d: Device,
     base: u32,
@@ -120,13 +124,19 @@ fn undo_group(
     requires { ⌜ (from + count * 16 ≤ length (now stands)) × (allSound base (holding (now window)) count (drop from (now stands)) ≡ true) ⌝ }
     ensures { λ r. ⌜ machine (now (window .exit)) r ≡ undo base (decodeAll count (drop from (now (stands .entry)))) (machine (now (window .entry)) d) ⌝ }
 {
+    let mut table = d.table;
     let mut e = d;
     let mut done = 0;
     while done < count {
         let last = count - done - 1;
-        e = undo_record(e, base, window, stands, from + last * 16);
+        let at = from + last * 16;
+        undo_store(base, window, &mut table, stands, at);
+        if is_field(stands, at) {
+            e = undo_field(e, stands, at);
+        }
         done += 1;
     }
+    e.table = table;
     e
 }
 
@@ -140,6 +150,17 @@ fn refused(why: Refusal, d: Device, used: usize) -> Acted
         verdict: Verdict::Refused(why),
         used,
         device: d,
+    }
+}
+
+// The used length that an accepted take-back answers is where the removed group began.
+fn accepted(e: Device, from: usize) -> Acted
+    ensures { λ r. ⌜ r ≡ record { verdict = How.Accepted; used = from; device = e } ⌝ }
+{
+    Acted {
+        verdict: Verdict::Accepted,
+        used: from,
+        device: e,
     }
 }
 
@@ -163,9 +184,5 @@ pub fn take_back(d: Device, base: u32, window: &mut [u8], journal: &mut [u8], us
     };
     let e = undo_group(d, base, window, stands, from, count);
     journal::clear(journal, from, used);
-    Acted {
-        verdict: Verdict::Accepted,
-        used: from,
-        device: e,
-    }
+    accepted(e, from)
 }

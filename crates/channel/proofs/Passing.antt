@@ -1,9 +1,9 @@
 -- The passes of one channel, one after another: what is left to do from where a loop stands is the whole from where it began, and a pass takes
 -- the first one off what is left, or ends the whole. Assumes nothing.
-use mathlib.Core.Bool.{Bool, true, false, cond, not, _&&_, _||_}
+use mathlib.Core.Bool.{Bool, true, false, cond, _&&_, _||_}
 use mathlib.Core.List.{List}
-use mathlib.Core.Path.{_≡_, refl, sym, ap, _∙_}
-use Prim.Native.Nat.{ℕ, zero, suc, _+_, _-_, _*_, _^_, _≤_, _<_}
+use mathlib.Core.Path.{_≡_, sym, _∙_}
+use Prim.Native.Nat.{ℕ, suc, _+_, _-_, _*_, _^_, _≤_, _<_}
 use native.Mathlib.Nat.{mod-eq-of-lt}
 use native.Mathlib.Omega.{arith}
 use borrow.Author.Tests.{eq-eqb, ne-eqb, lt-ltb, le-ltb}
@@ -21,7 +21,6 @@ use Rattle.rules.specs.With.{withPending}
 use Rattle.rules.specs.declared.Device.{Device}
 use Rattle.rules.specs.declared.Refusal.{Refusal}
 use Rattle.rules.specs.declared.Refusal.the-variants as Refusal
-use Rattle.rules.specs.declared.Tcd.{Tcd}
 use Rattle.rules.proofs.Steps.{bind-ok, bind-no, putting}
 use Rattle.flow.specs.Worlds.{world, told}
 use Rattle.flow.specs.declared.Flow.{Flow}

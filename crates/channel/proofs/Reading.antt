@@ -1,11 +1,11 @@
 -- Reads: a descriptor in an act, and its parts as the code reads them; whether a channel is offered. Assumes nothing.
-use mathlib.Core.Bool.{Bool, true, false, not, _&&_, _||_}
+use mathlib.Core.Bool.{Bool, true, false, not}
 use mathlib.Core.List.{List}
 use mathlib.Core.Path.{_≡_, refl, sym, ap, _∙_}
 use Prim.Native.Nat.{ℕ, _+_, _*_, _≤_}
 use lib.Dec.{lit≤, eqb}
 use lib.ListN.{length, getD}
-use Rattle.rules.specs.Act.{Act, Fetch, table, ask, fetch, _>>=_}
+use Rattle.rules.specs.Act.{Act, table, ask, fetch, _>>=_}
 use Rattle.rules.specs.Bytes.{number, part}
 use Rattle.rules.specs.Carry.{World, bytesOf, indexOf, fetched, go}
 use Rattle.rules.specs.Minor.{descriptor, tcdOf}

@@ -11,32 +11,16 @@ use lib.ListN.{length, take, drop, length-append, length-drop}
 use lib.Seq.{take-set-le, take-at, drop-at, drop-drop, length-take-le}
 use Rattle.rules.specs.Bytes.{splice}
 use Rattle.rules.specs.Calls.{worldOf}
-use Rattle.rules.specs.Carry.{World, Rec, stoodAt, stoodIn, lineOf, linesOf, endLine, changed, lastLines, written, After, made, unmade, ok, cleared, leave}
+use Rattle.rules.specs.Carry.{World, Rec, lineOf, linesOf, endLine, changed, lastLines, written, After, made, unmade, ok, cleared, leave}
 use Rattle.rules.specs.Fields.{fieldsOf}
 use Rattle.rules.specs.declared.Device.{Device}
+use Rattle.rules.proofs.Back.{length-rec, length-lines, length-end}
 use Rattle.rules.proofs.BytesLaws.{length-splice, splice-comm, splice-append}
 use Rattle.rules.proofs.Cut.{splice-cut}
-use Rattle.flow.proofs.Laws.{length-line}
 use Rattle.closing.specs.Closes.{Noting, noting, add, addAll, addEnd, closed, Closes}
 use Rattle.closing.specs.declared.Noted.{Noted}
 use Rattle.closing.specs.declared.Noted.the-variants.{At, Full}
 use Rattle.closing.proofs.Laws.{all-full, add-no, add-yes}
-
--- ---- each record is 16 bytes
-
-length-record : (r : Rec) → length (lineOf r) ≡ 16
-unfolding lineOf
-length-record (stoodAt sp a w v) = length-line _ w a v
-length-record (stoodIn n v) = length-line 2 8 n v
-
-length-records : (rs : List Rec) → length (linesOf rs) ≡ 16 * length rs
-unfolding linesOf
-length-records [] = refl
-length-records (r ∷ rs) = length-append (lineOf r) (linesOf rs) ∙ omega (arith, length-record r, length-records rs)
-
-length-end : (n : ℕ) → length (endLine n) ≡ 16
-unfolding endLine
-length-end n = length-line 3 0 0 n
 
 -- ---- all of them fit
 
@@ -46,7 +30,7 @@ unfolding addAll linesOf splice
 all-fit [] at j k = rw add-zero
 all-fit (r ∷ rs) at j k =
     let l : List ℕ = lineOf r in
-    let n : length l ≡ 16 = length-record r in
+    let n : length l ≡ 16 = length-rec r in
     let one : add l (noting (At at) j) ≡ noting (At (at + 16)) (splice j at l) = sym (add-yes l j at (omega arith) refl) in
     let e : at + 16 + 16 * length rs ≡ at + 16 * suc (length rs) = omega arith in
     let joined : splice (splice j at l) (at + 16) (linesOf rs) ≡ splice j at (l ++ linesOf rs) =
@@ -122,7 +106,7 @@ module _ (used at : ℕ) (rs : List Rec) (j : List ℕ) (h : used ≤ at) (k : a
   unfolding last
   length-last =
       length-append (linesOf rs) (endLine ((at - used) / 16 + length rs))
-      ∙ omega (arith, length-records rs, length-end ((at - used) / 16 + length rs))
+      ∙ omega (arith, length-lines rs, length-end ((at - used) / 16 + length rs))
 
   group-fits : at + 16 * suc (length rs) ≤ length j → addEnd used (addAll rs (noting (At at) j)) ≡ noting (At (at + length last)) (splice j at last)
   unfolding addEnd last
@@ -130,7 +114,7 @@ module _ (used at : ℕ) (rs : List Rec) (j : List ℕ) (h : used ≤ at) (k : a
       let n : ℕ = (at - used) / 16 + length rs in
       let m : ℕ = at + 16 * length rs in
       let count : (m - used) / 16 ≡ n = omega arith in
-      let size : length (linesOf rs) ≡ 16 * length rs = length-records rs in
+      let size : length (linesOf rs) ≡ 16 * length rs = omega (arith, length-lines rs) in
       let laid : List ℕ = splice j at (linesOf rs) in
       let ended : add (endLine n) (noting (At m) laid) ≡ noting (At (m + 16)) (splice laid m (endLine n)) =
       sym (add-yes (endLine n) laid m (omega (arith, length-splice j at (linesOf rs))) refl) in

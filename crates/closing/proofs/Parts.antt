@@ -8,7 +8,7 @@ use Rattle.rules.specs.Carry.{changed}
 use Rattle.rules.specs.Fields.{joined, headOf, partsOf, fieldsOf, controller, masksOf}
 use Rattle.rules.specs.declared.Controller.{Controller}
 use Rattle.rules.specs.declared.Device.{Device}
-use Rattle.closing.specs.Closes.{Noting, noting, addAll, Notes, Part, scalarsIn, headIn, lowIn, highIn, fieldsIn, smallOf}
+use Rattle.closing.specs.Closes.{Noting, noting, addAll, Notes, Part, scalarsIn, headIn, lowIn, highIn, fieldsIn, smallOf, SameLevels}
 use Rattle.closing.specs.declared.Noted.{Noted}
 use Rattle.closing.specs.declared.Small.{Small}
 use Rattle.closing.proofs.Laws.{part-on, same-on, none-changed}
@@ -70,6 +70,14 @@ module _ (s : Noted) (j : List ℕ) (b a : Small) (busy busy′ majors majors′
       → Notes 0 (fieldsIn b busy majors pending taken) (fieldsIn a busy′ majors′ pending′ taken′) s r j j′
   unfolding fieldsIn
   all-done p f = rest-on s j 0 256 256 (lowIn b busy majors pending) (lowIn a busy′ majors′ pending′) _ _ refl p f
+
+-- where no level and no taken count has changed, nothing from 256 on has
+pub low-only : (s : Noted) (j : List ℕ) (b a : Small) (busy busy′ majors majors′ pending pending′ taken : List ℕ) {r : Noted} {j′ : List ℕ}
+    → SameLevels (b .controllers) (a .controllers) → Part 256 0 (lowIn b busy majors pending) (lowIn a busy′ majors′ pending′) s r j j′
+    → Notes 0 (fieldsIn b busy majors pending taken) (fieldsIn a busy′ majors′ pending′ taken) s r j j′
+unfolding highIn
+low-only s j b a busy busy′ majors majors′ pending pending′ taken same p =
+    all-done s j b a busy busy′ majors majors′ pending pending′ taken taken p (none-changed 256 _ _ _ (rw (same .first, same .second, same .third)))
 
 -- ---- a device that is whole
 

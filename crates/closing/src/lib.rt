@@ -4,9 +4,9 @@
 use rules::Controller;
 use rules::Device;
 ghost use mathlib.Core.Bool.{false};
-ghost use mathlib.Core.List.{_∷_, []};
+ghost use mathlib.Core.List.{List, _∷_, []};
 ghost use mathlib.Core.Path.{_≡_};
-ghost use Prim.Native.Nat.{_≤_, _<_};
+ghost use Prim.Native.Nat.{ℕ, _≤_, _<_};
 ghost use lib.ListN.{length};
 ghost use Rattle.rules.specs.Carry.{line};
 ghost use Rattle.rules.specs.Fields.{fieldsOf, masksOf};
@@ -422,6 +422,46 @@ pub fn end_parts<'a, 'b>(
     );
     let high = note_high(low, touched, before, after, taken, taken_after, journal);
     note_end(high, used, journal)
+}
+
+// The same for an act of turns, which change no levels and no taken counts: whatever the taken counts are.
+pub fn end_turns(
+    before: Small,
+    after: Small,
+    busy: &[u64; 64],
+    busy_after: &[u64; 64],
+    majors: &[u64; 64],
+    majors_after: &[u64; 64],
+    pending: &[u32; 64],
+    pending_after: &[u32; 64],
+    journal: &mut [u8],
+    used: usize,
+    at: usize,
+) -> Noted
+    requires { ⌜ (used ≤ at) × (at ≤ length (now journal)) × SameLevels (before .controllers) (after .controllers) ⌝ }
+    ensures { λ r. ⌜ ((taken : List ℕ) → Closes r (fieldsIn before (now (busy .entry)) (now (majors .entry)) (now (pending .entry)) taken) (fieldsIn after (now («busy_after» .entry)) (now («majors_after» .entry)) (now («pending_after» .entry)) taken) used at (now (journal .entry)) (now (journal .exit))) ⌝ }
+{
+    let touched = Touched {
+        busy: true,
+        majors: true,
+        pending: true,
+        levels: false,
+        taken: false,
+    };
+    let low = note_low(
+        Noted::At(at),
+        touched,
+        before,
+        after,
+        busy,
+        busy_after,
+        majors,
+        majors_after,
+        pending,
+        pending_after,
+        journal,
+    );
+    note_end(low, used, journal)
 }
 
 // The end of an act that began with the device `before` and came to `after`.

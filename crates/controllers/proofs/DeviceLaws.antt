@@ -1,4 +1,5 @@
 -- The acts of `specs/Lines.antt` of rules on a device: what they answer and leave, said of its controllers. Assumes nothing.
+use mathlib.Core.Bool.{Bool}
 use mathlib.Core.List.{List, [], _∷_}
 use mathlib.Core.Path.{_≡_, refl, sym, ap, _∙_, subst}
 use Prim.Native.Nat.{ℕ, zero, suc, _+_, _%_, _^_, _<_, max}
@@ -16,14 +17,14 @@ use Rattle.rules.specs.Act.{acts, put, INT, LEVEL, LINES, SOURCE, TAKEN}
 use Rattle.rules.specs.Bytes.{part}
 use Rattle.rules.specs.Carry.{go}
 use Rattle.rules.specs.Fields.{controller, bitsOf, holds, withField, partsOf}
-use Rattle.rules.specs.With.{withControllers, withLines, withLevel}
+use Rattle.rules.specs.With.{withControllers, withLevel}
 use Rattle.rules.specs.Lines.{driven, sources, levelBytes, levelOf, relevel, above, heardFrom, hear, acknowledge, Found}
 use Rattle.rules.proofs.BytesLaws.{length-part, getD-part}
 use Rattle.rules.proofs.FieldLaws.{in-three, Sound, sized, holds-fits}
 use Rattle.flow.specs.Does.{Answers, Does}
 use Rattle.flow.proofs.DoesLaws.{answers-done, answers-ask, answers-bind, answers-then, does-put, does-change}
 use Rattle.controllers.proofs.MaskParts.{driven-fits}
-use Rattle.controllers.specs.Levels.{sourcesOf, levelIn, loudIn}
+use Rattle.controllers.specs.Levels.{sourcesOf, levelIn, drivenIn, controllersIn, highestIn, loudIn}
 
 -- ---- what a controller says
 
@@ -73,10 +74,6 @@ levels-long d s (suc (suc (suc c))) h = absurd (omega arith)
 
 -- ---- lines and level worked out anew
 
--- controller c of d with the lines that INT drives
-abbrev pub driving : Device → ℕ → Controller
-driving d c = withLines (controller (d .controllers) c) (driven c (d .int) (controller (d .controllers) c .lines))
-
 -- three others stored in an array of controllers, as code does it
 abbrev pub stored3 : List Controller → Controller → Controller → Controller → List Controller
 stored3 cs x y z = set (set (set cs 0 x) 1 y) 2 z
@@ -87,13 +84,13 @@ with3 d x y z = withControllers d (x ∷ y ∷ z ∷ [])
 
 module _ (d : Device) (a b c : Controller) (s : Sound (with3 d a b c)) where
   x : Controller
-  x = driving (with3 d a b c) 0
+  x = drivenIn (d .int) (a ∷ b ∷ c ∷ []) 0
 
   y : Controller
-  y = driving (with3 d a b c) 1
+  y = drivenIn (d .int) (a ∷ b ∷ c ∷ []) 1
 
   z : Controller
-  z = driving (with3 d a b c) 2
+  z = drivenIn (d .int) (a ∷ b ∷ c ∷ []) 2
 
   lines-fit : (i : ℕ) → driven i (d .int) (controller (a ∷ b ∷ c ∷ []) i .lines) < 2 ^ 64
   unfolding bitsOf
@@ -113,20 +110,21 @@ module _ (d : Device) (a b c : Controller) (s : Sound (with3 d a b c)) where
       (answers-bind _ _ (with3 d x y z) (with3 d x y z) r _ _ (level-answers (with3 d x y z) 2 (levels-long (with3 d a b c) s 2 (omega arith)))
       (subst (λ (v : ℕ). Does (put LEVEL v) (with3 d x y z) r) e (does-put (with3 d x y z) LEVEL n h))))))))
 
--- as code makes it: the lines of each, then the highest of their levels
-pub relevel-does : (d : Device) → Sound d → {x y z : Controller} {l0 l1 l2 m n : ℕ} → x ≡ driving d 0 → y ≡ driving d 1 → z ≡ driving d 2
-    → l0 ≡ levelIn (d .«ignore_masks») x → l1 ≡ levelIn (d .«ignore_masks») y → l2 ≡ levelIn (d .«ignore_masks») z → m ≡ max l1 l0 → n ≡ max l2 m → n < 2 ^ 8
-    → Does relevel d (withLevel (withControllers d (stored3 (d .controllers) x y z)) n)
-relevel-does d s {n = n} ex ey ez e0 e1 e2 em en h =
-    rw (ex, ey, ez)
+-- as code works them out: the lines of each, then the highest of their levels
+pub made-anew : (ignore : Bool) (int : ℕ) (cs : List Controller) {x y z : Controller} {l0 l1 l2 m n : ℕ} → x ≡ drivenIn int cs 0 → y ≡ drivenIn int cs 1 → z ≡ drivenIn int cs 2
+    → l0 ≡ levelIn ignore x → l1 ≡ levelIn ignore y → l2 ≡ levelIn ignore z → m ≡ max l1 l0 → n ≡ max l2 m
+    → (stored3 cs x y z ≡ controllersIn int cs) × (n ≡ highestIn ignore int cs)
+made-anew ignore int cs ex ey ez e0 e1 e2 em en = (rw (ex, ey, ez), en ∙ rw (em, e2, e1, e0, ex, ey, ez) refl)
+
+-- a device with them
+pub relevel-does : (d : Device) → Sound d → {cs : List Controller} {n : ℕ} → cs ≡ controllersIn (d .int) (d .controllers)
+    → n ≡ highestIn (d .«ignore_masks») (d .int) (d .controllers) → n < 2 ^ 8 → Does relevel d (withLevel (withControllers d cs) n)
+relevel-does d s {n = n} lines e h =
+    rw lines
     (in-three
-    (λ cs. Sound (withControllers d cs)
-    → n ≡ max (levelIn (d .«ignore_masks») (driving (withControllers d cs) 2)) (max (levelIn (d .«ignore_masks») (driving (withControllers d cs) 1)) (levelIn (d .«ignore_masks») (driving (withControllers d cs) 0)))
-    → Does relevel (withControllers d cs)
-    (withLevel (withControllers d (stored3 cs (driving (withControllers d cs) 0) (driving (withControllers d cs) 1) (driving (withControllers d cs) 2))) n))
-    (λ a b c t e. unfold x y z in three-does d a b c t n h e)
-    (d .controllers) (s .three) s
-    (en ∙ rw (em, e2, e1, e0, ex, ey, ez) refl))
+    (λ cs. Sound (withControllers d cs) → n ≡ highestIn (d .«ignore_masks») (d .int) cs → Does relevel (withControllers d cs) (withLevel (withControllers d (controllersIn (d .int) cs)) n))
+    (λ a b c t k. unfold x y z in three-does d a b c t n h k)
+    (d .controllers) (s .three) s e)
 
 -- ---- acknowledge
 

@@ -14,7 +14,7 @@ ghost use Rattle.rules.specs.Run.{requesting};
 ghost use Rattle.rules.specs.With.{withLines};
 ghost use Rattle.rules.specs.Words.{gain};
 ghost use Rattle.flow.specs.Does.{Answers, Does};
-ghost use Rattle.controllers.specs.Levels.{sourcesOf, levelIn, loudIn, found, saidBy, over};
+ghost use Rattle.controllers.specs.Levels.{sourcesOf, levelIn, controllersIn, highestIn, loudIn, found, saidBy, over};
 ghost use Rattle.controllers.specs.Waiting.{waitingIn};
 
 // ---- masks in parts
@@ -119,21 +119,41 @@ fn driven_by(int: u64, c: usize, k: Controller) -> Controller
     e
 }
 
+// Controllers with their lines, and the level.
+pub struct Levelled {
+    pub controllers: [Controller; 3],
+    pub level: u8,
+}
+
+// Lines and level worked out anew, for callers that hold the controllers apart.
+pub fn relevelled(controllers: [Controller; 3], int: u64, ignore: bool) -> Levelled
+    ensures { λ r. ⌜ (r .controllers ≡ controllersIn int controllers) × (r .level ≡ highestIn ignore int controllers) ⌝ }
+{
+    let x = driven_by(int, 0, controllers[0]);
+    let y = driven_by(int, 1, controllers[1]);
+    let z = driven_by(int, 2, controllers[2]);
+    let low = higher(level_of(y, ignore), level_of(x, ignore));
+    let level = higher(level_of(z, ignore), low);
+    let mut all = controllers;
+    all[0] = x;
+    all[1] = y;
+    all[2] = z;
+    Levelled {
+        controllers: all,
+        level,
+    }
+}
+
 // "Each accepted act but acknowledge ends by working out lines and level anew."
 pub fn update_irq(d: Device) -> Device
     ensures { λ r. ⌜ Does relevel d r ⌝ }
 {
-    let x = driven_by(d.int, 0, d.controllers[0]);
-    let y = driven_by(d.int, 1, d.controllers[1]);
-    let z = driven_by(d.int, 2, d.controllers[2]);
-    let ignore = d.ignore_masks;
-    let low = higher(level_of(y, ignore), level_of(x, ignore));
-    let level = higher(level_of(z, ignore), low);
+    let before = d.controllers;
+    let r = relevelled(before, d.int, d.ignore_masks);
+    let controllers = r.controllers;
     let mut e = d;
-    e.controllers[0] = x;
-    e.controllers[1] = y;
-    e.controllers[2] = z;
-    e.level = level;
+    e.controllers = controllers;
+    e.level = r.level;
     e
 }
 
@@ -264,7 +284,7 @@ fn waits(m: u64, count: u32, ch: usize) -> u64
 }
 
 // The channels of `standing`, and those whose pending count is above 0.
-fn waiting(standing: u64, pending: &[u32]) -> u64
+pub fn waiting(standing: u64, pending: &[u32]) -> u64
     requires { ⌜ length (now pending) ≡ 64 ⌝ }
     ensures { λ r. ⌜ r ≡ waitingIn (now (pending .entry)) 64 0 standing ⌝ }
 {

@@ -4,12 +4,9 @@
 use libc::STDOUT_FILENO;
 use rules::Acted;
 use rules::Device;
-use rules::Refusal;
 use rules::Verdict;
-ghost use mathlib.Core.Path.{_≡_};
 ghost use Prim.Native.Nat.{_+_, _*_, _≤_, _<_};
 ghost use lib.ListN.{length};
-ghost use Rattle.rules.specs.Calls.{verdictNumber, refusalNumber};
 
 const BASE: u32 = 0x80000000;
 
@@ -115,39 +112,10 @@ fn same_device(a: Device, b: Device) -> bool {
 
 // ---- what is written
 
-fn refusal_number(r: Refusal) -> u64
-    ensures { λ n. ⌜ n ≡ refusalNumber r ⌝ }
-{
-    match r {
-        Refusal::Size => 1,
-        Refusal::Address => 2,
-        Refusal::Register => 3,
-        Refusal::Crossing => 4,
-        Refusal::Window => 5,
-        Refusal::Journal => 6,
-        Refusal::Time => 7,
-        Refusal::Channel => 8,
-        Refusal::Outside => 9,
-        Refusal::Staging => 10,
-        Refusal::Room => 11,
-        Refusal::NothingStands => 12,
-        Refusal::Damaged => 13,
-    }
-}
-
-fn verdict_number(v: Verdict) -> u64
-    ensures { λ n. ⌜ n ≡ verdictNumber v ⌝ }
-{
-    match v {
-        Verdict::Accepted => 0,
-        Verdict::Refused(r) => refusal_number(r),
-    }
-}
-
 fn write(what: &[u8], v: Verdict, right: bool, yes: &[u8], no: &[u8]) {
     io::write_all(STDOUT_FILENO, what);
     io::write_all(STDOUT_FILENO, b": ");
-    io::print_decimal(STDOUT_FILENO, verdict_number(v));
+    io::print_decimal(STDOUT_FILENO, numbers::verdict_number(v) as u64);
     if right {
         io::write_all(STDOUT_FILENO, yes);
     } else {

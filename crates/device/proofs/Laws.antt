@@ -66,7 +66,7 @@ module _ {n : ℕ} {s t : Spot} (p : Found n s) (e : s ≡ t) where
 -- ---- a value's bits
 
 -- every field has some, and at most 64
-some-to-64 : (f : Field) → (ltb 0 (bitsOf f) ≡ true) × (leb (bitsOf f) 64 ≡ true)
+pub some-to-64 : (f : Field) → (ltb 0 (bitsOf f) ≡ true) × (leb (bitsOf f) 64 ≡ true)
 unfolding bitsOf
 some-to-64 CR = (refl, refl)
 some-to-64 ERQ = (refl, refl)

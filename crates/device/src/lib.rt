@@ -5,9 +5,8 @@ use rules::Device;
 ghost use mathlib.Core.Path.{_≡_};
 ghost use mathlib.Core.Bool.{true};
 ghost use Prim.Native.Nat.{_<_, _^_};
-ghost use lib.ListN.{getD, set};
+ghost use lib.ListN.{getD};
 ghost use Rattle.rules.specs.Act.{MASKS, FORCED, LINES, CONFIG, BUSY, MAJORS, PENDING, SOURCE, TAKEN};
-ghost use Rattle.rules.specs.With.{withControllers};
 ghost use Rattle.rules.specs.Fields.{controller, holds, withField, withNumber, bitsOf, ofController, fieldAt, fitsSome, fieldsOf};
 ghost use Rattle.rules.specs.Calls.{fresh, freshController};
 ghost use Rattle.device.specs.Spots.{Fits, Found, bitsAt, holdsSome};
@@ -59,15 +58,6 @@ pub fn controller_at(d: Device, c: usize) -> Controller
     ensures { λ r. ⌜ (r ≡ controller (d .controllers) c) × (Fits r) ⌝ }
 {
     d.controllers[c]
-}
-
-pub fn with_controller(d: Device, c: usize, k: Controller) -> Device
-    requires { ⌜ c < 3 ⌝ }
-    ensures { λ r. ⌜ r ≡ withControllers d (set (d .controllers) c k) ⌝ }
-{
-    let mut e = d;
-    e.controllers[c] = k;
-    e
 }
 
 pub fn with_masks(d: Device, c: usize, v: u64) -> Device

@@ -1,8 +1,8 @@
 -- Which arm of `dmaWrite` a write is, and what the arms do. Assumes nothing.
 use mathlib.Core.Bool.{Bool, true, false, cond, not, _&&_}
 use mathlib.Core.List.{List}
-use mathlib.Core.Option.{Option, none, some}
-use mathlib.Core.Path.{_≡_, refl, sym, ap, _∙_}
+use mathlib.Core.Option.{none, some}
+use mathlib.Core.Path.{_≡_, refl, sym, _∙_}
 use Prim.Native.Nat.{ℕ, _+_, _-_, _*_, _/_, _^_, _≤_, _<_}
 use borrow.Author.Tests.{ne-eqb}
 use lib.Bits.{bitOr}
@@ -10,7 +10,7 @@ use lib.Dec.{ltb}
 use lib.ListN.{length}
 use Rattle.rules.specs.declared.Device.{Device}
 use Rattle.rules.specs.Act.{Act, Field, table, nothing, fetch, store, change, when, _>>=_, _>>_, KICK}
-use Rattle.rules.specs.Bytes.{number, part}
+use Rattle.rules.specs.Bytes.{number}
 use Rattle.rules.specs.Calls.{isNone, orNothing, worldOf, badSize}
 use Rattle.rules.specs.Carry.{Out, ok, go, legal}
 use Rattle.rules.specs.Fields.{bitsOf, holds, withField}

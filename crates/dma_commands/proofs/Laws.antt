@@ -109,7 +109,7 @@ module _ (base staging : ℕ) where
   unfolding setStarts flagged when on
   starts v u e f g = then base staging (flagEach (flagged true) (named v) 64 0) (change KICK (λ k. bitOr k (named v))) (ok tt u) (rw e at f) (rw e at g)
 
-  pub in-row : (k v : ℕ) (o : Out (Unit {0})) {p q r x : Out (Unit {0})} → x ≡ on base staging (command (k + 3) (v % 256)) r → r ≡ on base staging (command (k + 2) (v / 2 ^ 8 % 256)) q
-      → q ≡ on base staging (command (k + 1) (v / 2 ^ 16 % 256)) p → p ≡ on base staging (command k (v / 2 ^ 24 % 256)) o → x ≡ on base staging (commands k v) o
+  pub in-row : (k v : ℕ) (o : Out (Unit {0})) {p q r x : Out (Unit {0})} → p ≡ on base staging (command k (v / 2 ^ 24 % 256)) o → q ≡ on base staging (command (k + 1) (v / 2 ^ 16 % 256)) p
+      → r ≡ on base staging (command (k + 2) (v / 2 ^ 8 % 256)) q → x ≡ on base staging (command (k + 3) (v % 256)) r → x ≡ on base staging (commands k v) o
   unfolding commands
-  in-row k v o {p} {q} a b c d = then base staging _ _ o (then base staging _ _ p (then base staging _ _ q a b) c) d
+  in-row k v o {p} {q} d c b a = then base staging _ _ o (then base staging _ _ p (then base staging _ _ q a b) c) d

@@ -1,4 +1,4 @@
--- How a call begins: refusals 5, 6 and 7 by cases, what holds where none is given, the turns from a device, and a service's. Assumes nothing.
+-- How a call begins: refusals 5, 6 and 7 by cases, what holds where none is given, the turns of a run, and a service's. Assumes nothing.
 use mathlib.Core.Bool.{Bool, true, false, not, _||_}
 use mathlib.Core.List.{List, _++_, append-nil}
 use mathlib.Core.Path.{_≡_, refl, sym, ap, _∙_}
@@ -15,19 +15,23 @@ use Rattle.rules.specs.Calls.{badWindow, badJournal, badTime, check, wrong, run
 use Rattle.rules.specs.Carry.{World, withDevice, go}
 use Rattle.rules.specs.Fields.{bitsOf}
 use Rattle.rules.specs.Run.{requesting, release, runAll, serviceAll}
-use Rattle.rules.specs.With.{withTable, withBusy, withMajors, withPending, withDeferred, withKick}
+use Rattle.rules.specs.With.{withBusy, withDeferred, withKick}
 use Rattle.rules.specs.declared.Device.{Device}
 use Rattle.rules.specs.declared.Verdict.{Verdict}
 use Rattle.rules.proofs.BoolLaws.{neither}
 use Rattle.rules.proofs.CallLaws.{passed, window-fits}
 use Rattle.rules.proofs.Steps.{bind-ok, then-ok, ask-does, put-does, change-does}
 use Rattle.flow.specs.Does.{beside, Answers}
+use Rattle.flow.specs.Worlds.{over}
+use Rattle.closing.specs.declared.Small.{Small}
+use Rattle.controllers.specs.Waiting.{waitingIn}
+use Rattle.controllers.proofs.InputLaws.{requesting-answers}
 use Rattle.turns.specs.Frees.{Frees}
-use Rattle.turns.specs.Turns.{turning, turned, Turns}
+use Rattle.turns.specs.Turns.{around, turning, turned, Turns}
 use Rattle.turns.specs.declared.Course.{Course}
 use Rattle.turns.specs.declared.Turned.{Turned}
 use Rattle.turns.specs.declared.Turned.the-variants.{On, Off}
-use Rattle.engine.specs.Runs.{courseOf, verdictOf, courseFrom, withCourse, came}
+use Rattle.engine.specs.Runs.{courseOf, verdictOf, came, whole, courseFrom, Offers}
 
 -- ---- refusals 5, 6 and 7
 
@@ -70,7 +74,7 @@ right base window journal used time pace e =
       below = window-fits base window (w .0);
     }
 
--- ---- the turns from a device
+-- ---- the turns of a run
 
 pub came-so : (s : Turned) (d : Device) (w j tb m p b : List ℕ) → came (verdictOf s) (turning d (courseOf s) w j tb m p b) ≡ turned s d w j tb m p b
 unfolding came turned
@@ -94,17 +98,23 @@ world-within d w j at n e = rw (e, ends-within j at .0, ends-within j at .1)
 pub zeros : (s : List ℕ) (n : ℕ) {s′ : List ℕ} → s′ ≡ take 0 s ++ replicate (length s - 0) 0 ++ drop (length s) s → length s ≡ n → s′ ≡ replicate n 0
 zeros s n h e = let q : length s - 0 ≡ n = omega arith in h ∙ rw (q, drop-length s, append-nil)
 
--- all that a run of turns from a device came to, put together again
-pub run-did : (time pace base staging used : ℕ) (from : Device) (t : Course) (s : Turned) (w w′ j j′ tb m p b : List ℕ)
-    → Turns (runAll time pace) base staging (from .standing) t s w w′ j j′ (from .table) tb (from .majors) m (from .pending) p (from .busy) b → t ≡ courseFrom from used
-    → (k : Course) → k ≡ courseOf s → (e : Device) → e ≡ withCourse (withBusy (withPending (withMajors (withTable from tb) m) p) b) k
-    → (at : ℕ) → at ≡ min (k .flow .at) (length j′) → (v : Verdict) → v ≡ verdictOf s
-    → came v (worldOf e w′ j′ at) ≡ go base staging (runAll time pace) (worldOf from w j used)
-run-did time pace base staging used from t s w w′ j j′ tb m p b did begins k k-is e e-is at at-is v v-is =
-    let ran = (rw begins at did) from refl in
-    rw (v-is, e-is, world-within _ w′ j′ (k .flow .at) at at-is, k-is) (came-so s from w′ j′ tb m p b ∙ ran)
+-- all that a run of turns came to
+module _ (time pace base staging standing : ℕ) (t : Course) (s : Turned) (w w′ j j′ tb tb′ m m′ p p′ b b′ : List ℕ)
+    (did : Turns (runAll time pace) base staging standing t s w w′ j j′ tb tb′ m m′ p p′ b b′)
+  where
+    pub run-did : (k : Course) → k ≡ courseOf s → (at : ℕ) → at ≡ min (k .flow .at) (length j′) → (v : Verdict) → v ≡ verdictOf s → (d : Device) → d .standing ≡ standing
+        → came v (worldOf (over (around d k p′ b′) (k .flow) tb′ m′) w′ j′ at) ≡ go base staging (runAll time pace) (turning d t w j tb m p b)
+    run-did k k-is at at-is v v-is d h = rw (v-is, world-within _ w′ j′ (k .flow .at) at at-is, k-is) (came-so s d w′ j′ tb′ m′ p′ b′ ∙ did d h)
 
 -- ---- a service's
+
+-- what its turns begin with
+abbrev pub again-from : Small → ℕ → ℕ → Course
+again-from s used kick = record {
+  flow = record { cr = s .cr; erq = s .erq; int = s .int; kick = kick; at = used };
+  deferred = 0;
+  deadline = s .deadline;
+}
 
 module _ (time : ℕ) (d : Device) (back asking : ℕ) (b : List ℕ) (frees : Frees time (d .erq) back (d .busy) b) (asks : Answers requesting (withBusy d b) asking (withBusy d b))
     (hb : back < 2 ^ 64) (hk : d .kick < 2 ^ 64) (hd : d .deferred < 2 ^ 64)
@@ -127,3 +137,18 @@ module _ (time : ℕ) (d : Device) (back asking : ℕ) (b : List ℕ) (frees : F
         ∙ then-ok base staging (put DEFERRED 0) _ u (put-does base staging u DEFERRED 0 (lit< tt))
         ∙ then-ok base staging (change KICK (λ k. bitOr k (bitAnd (bitOr back (d .deferred)) (bitOr asking k)))) _ v
         (change-does base staging v KICK (λ k. bitOr k (bitAnd (bitOr back (d .deferred)) (bitOr asking k))) fits)
+
+-- where the turns begin
+
+pub offers-run : (again : Bool) → again ≡ false → (time : ℕ) (s : Small) (used : ℕ) (p b : List ℕ) {r : Course} → r ≡ courseFrom s used → Offers again time s r p b b used
+offers-run again h time s used p b e pace base staging ignore tb m taken w j = rw (h, e) refl
+
+pub offers-service : (again : Bool) → again ≡ true → (time : ℕ) (s : Small) (used : ℕ) (p b b′ : List ℕ) (r : Course) → Offers true time s r p b b′ used → Offers again time s r p b b′ used
+offers-service again h time s used p b b′ r o pace base staging ignore tb m taken w j = rw h (o pace base staging ignore tb m taken w j)
+
+pub offers-again : (time : ℕ) (s : Small) (used back asking : ℕ) (p b b′ : List ℕ) → Frees time (s .erq) back b b′ → asking ≡ waitingIn p 64 0 (s .standing)
+    → back < 2 ^ 64 → s .kick < 2 ^ 64 → s .deferred < 2 ^ 64
+    → Offers true time s (again-from s used (bitOr (s .kick) (bitAnd (bitOr back (s .deferred)) (bitOr asking (s .kick))))) p b b′ used
+offers-again time s used back asking p b b′ frees asks hb hk hd pace base staging ignore tb m taken w j =
+    let d : Device = whole s ignore tb b m p taken in
+    offered-again time d back asking b′ frees (requesting-answers (withBusy d b′) asks) hb hk hd pace base staging w (take used j) (drop used j)

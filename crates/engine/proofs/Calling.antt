@@ -1,4 +1,5 @@
 -- The public calls: refused by 5, 6 or 7, or carried out. Assumes nothing.
+use mathlib.Core.Bool.{Bool, true, false}
 use mathlib.Core.List.{List}
 use mathlib.Core.Path.{_≡_, refl, sym, ap, _∙_}
 use Prim.Native.Nat.{ℕ, zero, suc, _<_}
@@ -15,6 +16,10 @@ use Rattle.rules.specs.declared.Refusal.the-variants as Refusal
 use Rattle.rules.specs.declared.Verdict.{Verdict}
 use Rattle.rules.specs.declared.Verdict.the-variants as Verdict
 use Rattle.rules.proofs.CallLaws.{act-wrong}
+use Rattle.rules.proofs.Typed.{Typed, sound, table-size}
+use Rattle.closing.specs.Closes.{smallOf}
+use Rattle.closing.specs.declared.Small.{Small}
+use Rattle.engine.specs.Runs.{whole, Fine, stepsOf, standing, asked}
 
 -- a refusal's number is not 0
 numbered : (n : Refusal) → 0 < refusalNumber n
@@ -32,9 +37,39 @@ numbered Refusal.Room = lit< tt
 numbered Refusal.NothingStands = lit< tt
 numbered Refusal.Damaged = lit< tt
 
-pub service-wrong : (base window journal used time pace : ℕ) → wrong base window journal used (service time pace) ≡ wrong base window journal used (run time pace)
+service-wrong : (base window journal used time pace : ℕ) → wrong base window journal used (service time pace) ≡ wrong base window journal used (run time pace)
 unfolding wrong
 service-wrong base window journal used time pace = refl
+
+pub asked-wrong : (base window journal used time pace : ℕ) (again : Bool) → wrong base window journal used (asked again time pace) ≡ wrong base window journal used (run time pace)
+asked-wrong base window journal used time pace true = service-wrong base window journal used time pace
+asked-wrong base window journal used time pace false = refl
+
+-- after a refusal the device is the one given
+pub told-kept : (v : Verdict) {n : Refusal} → v ≡ Verdict.Refused n → (x y : Device) {w s j : List ℕ} {u : ℕ} {z : Told}
+    → told (verdictNumber v) Heard.Nothing (standing v x y) w s j u ≡ z → told (verdictNumber v) Heard.Nothing x w s j u ≡ z
+unfolding standing
+told-kept v e x y {w} {s} {j} {u} h = ap (λ (d : Device). told (verdictNumber v) Heard.Nothing d w s j u) (sym (kept e)) ∙ h
+  where
+    kept : {n : Refusal} → v ≡ Verdict.Refused n → standing v x y ≡ x
+    kept e = rw e refl
+
+pub told-moved : (v : Verdict) → v ≡ Verdict.Accepted → (x y : Device) {w s j : List ℕ} {u : ℕ} {z : Told}
+    → told (verdictNumber v) Heard.Nothing (standing v x y) w s j u ≡ z → told (verdictNumber v) Heard.Nothing y w s j u ≡ z
+unfolding standing
+told-moved v e x y {w} {s} {j} {u} h = ap (λ (d : Device). told (verdictNumber v) Heard.Nothing d w s j u) (sym moved) ∙ h
+  where
+    moved : standing v x y ≡ y
+    moved = rw e refl
+
+-- a device, and its parts
+pub fine-parts : (d : Device) → Typed d → (k : Small) → k ≡ smallOf d → Fine (whole k (d .«ignore_masks») (d .table) (d .busy) (d .majors) (d .pending) (d .taken))
+fine-parts d g k e = rw e (sound d g, omega (arith, table-size d g))
+
+pub whole-told : (call : Asked) (base : ℕ) (d : Device) (w s j : List ℕ) (used : ℕ) (k : Small) → k ≡ smallOf d → (n u : ℕ) (x e : Device) (w′ s′ j′ : List ℕ) → e ≡ x
+    → told n Heard.Nothing x w′ s′ j′ u ≡ after call base (whole k (d .«ignore_masks») (d .table) (d .busy) (d .majors) (d .pending) (d .taken)) w s j used
+    → told n Heard.Nothing e w′ s′ j′ u ≡ after call base d w s j used
+whole-told call base d w s j used k p n u x e w′ s′ j′ q h = rw q (rw p at h)
 
 module _ (base : ℕ) (d : Device) (w s j : List ℕ) (used : ℕ) where
   told-wrong : (c : Asked) (x : ℕ) → 0 < x → wrong base (length w) (length j) used c ≡ x → told x Heard.Nothing d w s j used ≡ after c base d w s j used
@@ -46,14 +81,20 @@ module _ (base : ℕ) (d : Device) (w s j : List ℕ) (used : ℕ) where
   refused-told c v e {n} h = told-wrong c (verdictNumber v) (rw (ap verdictNumber h) (numbered n)) (sym e)
 
   module _ (time pace : ℕ) (x : Told) where
-    pub run-told : wrong base (length w) (length j) used (run time pace) ≡ 0
+    run-told : wrong base (length w) (length j) used (run time pace) ≡ 0
         → x ≡ toldAfter (replicate (length s) 0) used (perform base (length s) (levelled (runAll time pace)) (worldOf d w j used))
         → x ≡ after (run time pace) base d w s j used
     unfolding after stagingAfter actOf
     run-told e q = q ∙ sym (rw (e, after))
 
-    pub service-told : wrong base (length w) (length j) used (service time pace) ≡ 0
+    service-told : wrong base (length w) (length j) used (service time pace) ≡ 0
         → x ≡ toldAfter (replicate (length s) 0) used (perform base (length s) (levelled (serviceAll time pace)) (worldOf d w j used))
         → x ≡ after (service time pace) base d w s j used
     unfolding after stagingAfter actOf
     service-told e q = q ∙ sym (rw (e, after))
+
+    pub asked-told : (again : Bool) → wrong base (length w) (length j) used (run time pace) ≡ 0
+        → x ≡ toldAfter (replicate (length s) 0) used (perform base (length s) (levelled (stepsOf again time pace)) (worldOf d w j used))
+        → x ≡ after (asked again time pace) base d w s j used
+    asked-told true e q = service-told (service-wrong base (length w) (length j) used time pace ∙ e) q
+    asked-told false e q = run-told e q

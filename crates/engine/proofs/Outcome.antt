@@ -1,11 +1,13 @@
 -- How a call ends whose turns came to a world: rolled back where it is refused, and closed where it is not. Assumes nothing.
+use mathlib.Core.Bool.{Bool}
 use mathlib.Core.List.{List, [], _∷_}
 use mathlib.Core.Path.{_≡_, refl, sym, ap, _∙_, subst}
-use Prim.Native.Nat.{ℕ, _≤_, min}
-use lib.ListN.{length, take, drop, length-append, length-take, take-append-drop}
+use Prim.Native.Nat.{ℕ, _+_, _^_, _≤_, min}
+use lib.ListN.{length, take, drop, replicate, length-append, length-take, take-append-drop}
 use lib.Seq.{length-take-le}
 use Rattle.rules.specs.Act.{Act, window, table}
-use Rattle.rules.specs.Calls.{told, refusalNumber, verdictNumber, levelled, worldOf, toldAfter}
+use Rattle.rules.specs.Bytes.{Bytes}
+use Rattle.rules.specs.Calls.{Told, told, refusalNumber, verdictNumber, levelled, worldOf, toldAfter}
 use Rattle.rules.specs.Carry.{Machine, World, Rec, stoodAt, stoodIn, ok, no, there, go, unmade, cleared, leave, perform}
 use Rattle.rules.specs.Fields.{fieldsOf}
 use Rattle.rules.specs.Lines.{relevel}
@@ -22,15 +24,23 @@ use Rattle.rules.proofs.Steps.{then-ok, then-no, go-done, leave-refused}
 use Rattle.rules.proofs.Took.{Underway, go-underway}
 use Rattle.rules.proofs.Undo.{asIn}
 use Rattle.flow.specs.Does.{Answers, Does}
+use Rattle.flow.specs.Worlds.{over}
 use Rattle.journal.specs.Undoing.{RolledBack}
 use Rattle.journal.proofs.Back.{MemorySound, rolls, rolled-window, rolled-journal}
-use Rattle.closing.specs.Closes.{SparedOf, closed, Closes}
+use Rattle.closing.specs.Closes.{SameLevels, closed, Closes, fieldsIn}
 use Rattle.closing.specs.declared.Noted.{Noted}
 use Rattle.closing.specs.declared.Noted.the-variants.{At, Full}
-use Rattle.closing.specs.declared.Touched.{Touched}
+use Rattle.closing.specs.declared.Small.{Small}
 use Rattle.closing.proofs.Group.{closes}
-use Rattle.engine.specs.Runs.{came, byTurns}
-use Rattle.engine.proofs.Sparing.{spared}
+use Rattle.closing.proofs.Parts.{fields-in}
+use Rattle.controllers.specs.Levels.{controllersIn, highestIn}
+use Rattle.controllers.specs.declared.Levelled.{Levelled}
+use Rattle.controllers.proofs.DeviceLaws.{relevel-does}
+use Rattle.turns.specs.Turns.{around}
+use Rattle.turns.specs.declared.Course.{Course}
+use Rattle.engine.specs.Runs.{came, whole, withCourse, RunsAll, SameSteps, Fine, standing}
+use Rattle.engine.specs.declared.Ran.{Ran}
+use Rattle.engine.proofs.Sparing.{highest-below, same-levels}
 
 -- ---- records that are sound where an act began are sound in a window as long
 
@@ -55,7 +65,7 @@ module _ (base staging : ℕ) (before : Device) (w j : List ℕ) (used : ℕ) (g
     abbrev u : World
     u = worldOf before w j used
 
-    way : Underway base u (worldOf e w′ j′ at)
+    pub way : Underway base u (worldOf e w′ j′ at)
     way = at-world (Underway base u) v (worldOf e w′ j′ at) (subst (AtEnd (Underway base u)) (sym steps) (go-underway base u good staging m))
 
     begun : length (take used j) ≡ used
@@ -83,11 +93,6 @@ module _ (base staging : ℕ) (before : Device) (w j : List ℕ) (used : ℕ) (g
         unfolding toldAfter cleared
         told-back z n p =
             rw (p, window-back, rolled-journal j₂ (take used j) (way .log) used at (front ∙ way .used-is) begun before w j refl (same ∙ long) (back .journal-is))
-
-    -- what the end of the act asks
-    pub can-end : (e₂ : Device) → Does relevel e e₂ → at ≤ length j′ → e .taken ≡ before .taken → e .controllers ≡ before .controllers → (t : Touched) → t ≡ byTurns
-        → (used ≤ at) × (at ≤ length j′) × SparedOf t before e₂
-    can-end e₂ does short taken controllers t is = (can-roll j′ refl refl .0, short, rw is (spared before e e₂ (way .good .sound-dev) does taken controllers))
 
     -- refused at a step
     unmade-so : (n : Refusal) → v ≡ Verdict.Refused n → perform base staging (levelled m) u ≡ unmade (refusalNumber n) (cleared u)
@@ -132,3 +137,63 @@ module _ (base staging : ℕ) (before : Device) (w j : List ℕ) (used : ℕ) (g
     pub ends-refused : (n : Refusal) → v ≡ Verdict.Refused n → (w″ j″ : List ℕ) → RolledBack base used at w′ j′ w″ j″ → (z z₀ : List ℕ) → z ≡ z₀
         → told (verdictNumber v) Heard.Nothing before w″ z j″ used ≡ toldAfter z₀ used (perform base staging (levelled m) u)
     ends-refused n h w″ j″ back z z₀ q = rw (q, ap verdictNumber h) (told-back j′ refl refl w″ j″ back z₀ (refusalNumber n) (unmade-so n h))
+
+-- ---- an act on a device in parts: `bef` and tb, b, m, p at entry; its turns began with m₁, p₁, b₁ and came to tb′, m′, p′, b′
+
+module _ (time pace base : ℕ) (bef : Small) (ignore : Bool) (t : Course) (w s j tb b b₁ m m₁ p p₁ : List ℕ) (used : ℕ) (r : Ran) (w′ s′ j′ tb′ m′ p′ b′ : List ℕ)
+    (ran : RunsAll time pace base (bef .standing) t r w w′ s s′ j j′ tb tb′ m₁ m′ p₁ p′ b₁ b′)
+    (bytes : Bytes w) (below : base + length w ≤ 2 ^ 32) (fits : used ≤ length j)
+    (taken : List ℕ) (fine : Fine (whole bef ignore tb b m p taken)) (act : Act (Unit {0})) (same : SameSteps act time pace base (whole bef ignore tb b m p taken) t w s j m₁ p₁ b₁ used)
+  where
+    abbrev d : Device
+    d = whole bef ignore tb b m p taken
+
+    abbrev e : Device
+    e = over (around d (r .course) p′ b′) (r .course .flow) tb′ m′
+
+    abbrev ends : Told
+    ends = toldAfter (replicate (length s) 0) used (perform base (length s) (levelled act) (worldOf d w j used))
+
+    good : Good base (record { mem = w; dev = d })
+    good = record { sound-dev = fine .0; mem-bytes = bytes; mem-below = below; table-below = fine .1 }
+
+    steps : came (r .verdict) (worldOf e w′ j′ (r .at)) ≡ go base (length s) act (worldOf d w j used)
+    steps = ran .does d refl ∙ sym same
+
+    pub rolls-first : (used ≤ r .at) × (used ≤ length j′)
+    rolls-first = can-roll base (length s) d w j used good fits act (r .verdict) e w′ j′ (r .at) steps j′ refl refl
+
+    pub told-refused : (n : Refusal) → r .verdict ≡ Verdict.Refused n → (w″ j″ : List ℕ) → RolledBack base used (r .at) w′ j′ w″ j″ → (x : Device)
+        → told (verdictNumber (r .verdict)) Heard.Nothing (standing (r .verdict) d x) w″ s′ j″ used ≡ ends
+    unfolding standing
+    told-refused n h w″ j″ back x =
+        rw (h, standing) (rw h at (ends-refused base (length s) d w j used good fits act (r .verdict) e w′ j′ (r .at) steps n h w″ j″ back s′ _ (ran .cleared-staging)))
+
+    module _ (l : Levelled) (lines : l .controllers ≡ controllersIn (r .course .flow .int) (bef .controllers)) (level : l .level ≡ highestIn ignore (r .course .flow .int) (bef .controllers))
+        (after : Small) (put : after ≡ withCourse bef (r .course) (l .controllers) (l .level))
+      where
+        pub can-end : (used ≤ r .at) × (r .at ≤ length j′) × SameLevels (bef .controllers) (after .controllers)
+        can-end = (rolls-first .0, ran .short, rw put (same-levels (r .course .flow .int) (bef .controllers) (fine .0 .three) lines))
+
+        abbrev e₂ : Device
+        e₂ = whole after ignore tb′ b′ m′ p′ taken
+
+        relevelled : Does relevel e e₂
+        relevelled =
+            rw put (relevel-does e (way base (length s) d w j used good fits act (r .verdict) e w′ j′ (r .at) steps .good .sound-dev) lines level (highest-below ignore (r .course .flow .int) (bef .controllers) level))
+
+        module _ (n : Noted) (j₂ : List ℕ) (closing : (taken : List ℕ) → Closes n (fieldsIn bef b m p taken) (fieldsIn after b′ m′ p′ taken) used (r .at) j′ j₂) where
+          closed-whole : Closes n (fieldsOf d) (fieldsOf e₂) used (r .at) j′ j₂
+          closed-whole = rw (fields-in d, fields-in e₂) (closing taken)
+
+          pub rolls-last : (used ≤ r .at) × (used ≤ length j₂)
+          rolls-last = can-roll base (length s) d w j used good fits act (r .verdict) e w′ j′ (r .at) steps j₂ (closing taken .front) (closing taken .long)
+
+          module _ (h : r .verdict ≡ Verdict.Accepted) where
+            pub told-full : n ≡ Full → (w″ j″ : List ℕ) → RolledBack base used (r .at) w′ j₂ w″ j″ → told 11 Heard.Nothing d w″ s′ j″ used ≡ ends
+            told-full f w″ j″ back =
+                ends-full base (length s) d w j used good fits act (r .verdict) e w′ j′ (r .at) steps h e₂ relevelled n j₂ closed-whole f w″ j″ back s′ _ (ran .cleared-staging)
+
+            pub told-made-so : (end u : ℕ) → n ≡ At end → u ≡ min end (length j₂) → told 0 Heard.Nothing e₂ w′ s′ j₂ u ≡ ends
+            told-made-so end u f q =
+                ends-made base (length s) d w j used good fits act (r .verdict) e w′ j′ (r .at) steps h e₂ relevelled n j₂ closed-whole s′ _ (ran .cleared-staging) end u f q

@@ -1,25 +1,27 @@
 -- What the parts of a run promise. Assumes nothing.
-use mathlib.Core.Bool.{true, false}
+use mathlib.Core.Bool.{Bool, cond}
 use mathlib.Core.List.{List}
 use mathlib.Core.Path.{_≡_}
-use Prim.Native.Nat.{ℕ, _≤_}
+use Prim.Native.Nat.{ℕ, _^_, _≤_}
 use lib.ListN.{length, replicate}
 use Rattle.rules.specs.Act.{Act}
-use Rattle.rules.specs.Calls.{refusalNumber, levelled, worldOf, toldActed, toldAfter}
+use Rattle.rules.specs.Calls.{Asked, run, service, refusalNumber, verdictNumber, levelled, worldOf, told, toldAfter, after}
 use Rattle.rules.specs.Carry.{World, Out, ok, no, go, perform}
 use Rattle.rules.specs.Run.{runAll, serviceAll}
-use Rattle.rules.specs.With.{withDeferred, withDeadline}
-use Rattle.rules.specs.declared.Acted.{Acted}
+use Rattle.rules.specs.declared.Controller.{Controller}
 use Rattle.rules.specs.declared.Device.{Device}
+use Rattle.rules.specs.declared.Heard.the-variants as Heard
 use Rattle.rules.specs.declared.Verdict.{Verdict}
 use Rattle.rules.specs.declared.Verdict.the-variants as Verdict
-use Rattle.closing.specs.declared.Touched.{Touched}
-use Rattle.flow.specs.Does.{beside}
+use Rattle.rules.proofs.FieldLaws.{Sound}
+use Rattle.closing.specs.declared.Small.{Small}
 use Rattle.flow.specs.Worlds.{over}
+use Rattle.turns.specs.Turns.{around, turning}
 use Rattle.turns.specs.declared.Course.{Course}
 use Rattle.turns.specs.declared.Turned.{Turned}
 use Rattle.turns.specs.declared.Turned.the-variants.{On, Off}
 use Rattle.engine.specs.declared.Ran.{Ran}
+use Rattle.engine.specs.declared.Done.{Done}
 
 -- ---- how turns ended
 
@@ -31,55 +33,115 @@ abbrev pub verdictOf : Turned → Verdict
 verdictOf (On t) = Verdict.Accepted
 verdictOf (Off r t) = Verdict.Refused r
 
--- what turns change of a device besides its arrays, where the journal ends at `used`; and a device with that
-abbrev pub courseFrom : Device → ℕ → Course
-courseFrom d used = record {
-  flow = record { cr = d .cr; erq = d .erq; int = d .int; kick = d .kick; at = used };
-  deferred = d .deferred;
-  deadline = d .deadline;
-}
-
-abbrev pub withCourse : Device → Course → Device
-withCourse d t = withDeadline (withDeferred (over d (t .flow) (d .table) (d .majors)) (t .deferred)) (t .deadline)
-
--- what a run or service can have changed
-abbrev pub byTurns : Touched
-byTurns = record { busy = true; majors = true; pending = true; levels = false; taken = false }
-
 -- an act that came to a world, and how
 unfoldable pub came : Verdict → World → Out (Unit {0})
 came Verdict.Accepted u = ok tt u
 came (Verdict.Refused r) u = no (refusalNumber r) u
 
--- ---- promises
+-- ---- a device in parts
 
--- a run of turns from a device: what it came to, with a journal's end that is not past the journal; taken counts and controllers are as they
--- were, and staging is zero
-pub record RunsAll (time pace base : ℕ) (from : Device) (r : Ran) (w w′ s s′ j j′ : List ℕ) (used : ℕ) : Type 0 where
-  pub does : came (r .verdict) (worldOf (r .device) w′ j′ (r .at)) ≡ go base (length s) (runAll time pace) (worldOf from w j used)
+-- table, busy, majors, pending, taken
+abbrev pub whole : Small → Bool → List ℕ → List ℕ → List ℕ → List ℕ → List ℕ → Device
+whole s ignore table busy majors pending taken = record {
+  erq = s .erq;
+  eei = s .eei;
+  int = s .int;
+  err = s .err;
+  kick = s .kick;
+  deferred = s .deferred;
+  deadline = s .deadline;
+  standing = s .standing;
+  table = table;
+  busy = busy;
+  majors = majors;
+  taken = taken;
+  pending = pending;
+  controllers = s .controllers;
+  cr = s .cr;
+  level = s .level;
+  «ignore_masks» = ignore;
+}
+
+-- what turns change besides arrays, where the journal ends at `used`; and that put in, with controllers and level
+abbrev pub courseFrom : Small → ℕ → Course
+courseFrom s used = record {
+  flow = record { cr = s .cr; erq = s .erq; int = s .int; kick = s .kick; at = used };
+  deferred = s .deferred;
+  deadline = s .deadline;
+}
+
+abbrev pub withCourse : Small → Course → List Controller → ℕ → Small
+withCourse s t controllers level = record {
+  erq = t .flow .erq;
+  eei = s .eei;
+  int = t .flow .int;
+  err = s .err;
+  kick = t .flow .kick;
+  deferred = t .deferred;
+  deadline = t .deadline;
+  standing = s .standing;
+  controllers = controllers;
+  cr = t .flow .cr;
+  level = level;
+}
+
+-- ---- promises; w, s, j, tb, m, p, b are window, staging, journal, table, majors, pending and busy
+
+-- a run of turns, whatever the rest of the device is: what it came to, with a journal's end that is not past the journal; staging is zero
+pub record RunsAll (time pace base standing : ℕ) (t : Course) (r : Ran) (w w′ s s′ j j′ tb tb′ m m′ p p′ b b′ : List ℕ) : Type 0 where
+  pub does : (d : Device) → d .standing ≡ standing
+      → came (r .verdict) (worldOf (over (around d (r .course) p′ b′) (r .course .flow) tb′ m′) w′ j′ (r .at)) ≡ go base (length s) (runAll time pace) (turning d t w j tb m p b)
   pub short : r .at ≤ length j′
-  pub same-taken : r .device .taken ≡ from .taken
-  pub same-controllers : r .device .controllers ≡ from .controllers
   pub cleared-staging : s′ ≡ replicate (length s) 0
 
--- a device from which the turns of a service are those of a run
-pub record Offers (time : ℕ) (d e : Device) : Type 0 where
-  pub does : (pace base staging : ℕ) (mem used free : List ℕ)
-      → go base staging (serviceAll time pace) (beside mem used free d) ≡ go base staging (runAll time pace) (beside mem used free e)
-  pub same-taken : e .taken ≡ d .taken
-  pub same-controllers : e .controllers ≡ d .controllers
+-- the steps of a service, or of a run
+abbrev pub stepsOf : Bool → ℕ → ℕ → Act (Unit {0})
+stepsOf again time pace = cond again (serviceAll time pace) (runAll time pace)
 
--- an act on `before` has the steps of a run from `from`
-abbrev pub SameSteps : Act (Unit {0}) → ℕ → ℕ → ℕ → Device → Device → List ℕ → List ℕ → List ℕ → ℕ → Type 0
-SameSteps m time pace base before from w s j used = go base (length s) m (worldOf before w j used) ≡ go base (length s) (runAll time pace) (worldOf from w j used)
+-- they are the turns of a run that begins with r and busy times b′
+abbrev pub Offers : Bool → ℕ → Small → Course → List ℕ → List ℕ → List ℕ → ℕ → Type 0
+Offers again time s r p b b′ used =
+    (pace base staging : ℕ) (ignore : Bool) (tb m taken w j : List ℕ)
+    → go base staging (stepsOf again time pace) (worldOf (whole s ignore tb b m p taken) w j used) ≡ go base staging (runAll time pace) (turning (whole s ignore tb b m p taken) r w j tb m p b′)
 
--- some act has
-pub record Reaches (time pace base : ℕ) (before from : Device) (w s j : List ℕ) (used : ℕ) : Type 0 where
+-- an act on d has the steps of a run that begins with t and other majors, pending and busy
+abbrev pub SameSteps : Act (Unit {0}) → ℕ → ℕ → ℕ → Device → Course → List ℕ → List ℕ → List ℕ → List ℕ → List ℕ → List ℕ → ℕ → Type 0
+SameSteps act time pace base d t w s j m p b used =
+    go base (length s) act (worldOf d w j used) ≡ go base (length s) (runAll time pace) (turning d t w j (d .table) m p b)
+
+-- a device of the declared type
+abbrev pub Fine : Device → Type 0
+Fine d = Sound d × (length (d .table) ≤ 2 ^ 32)
+
+-- some act on a device of these parts has
+pub record Reaches (time pace base : ℕ) (before : Small) (ignore : Bool) (t : Course) (w s j tb b b₁ m m₁ p p₁ : List ℕ) (used : ℕ) : Type 0 where
+  pub taken : List ℕ
+  pub fine : Fine (whole before ignore tb b m p taken)
   pub act : Act (Unit {0})
-  pub steps : SameSteps act time pace base before from w s j used
+  pub steps : SameSteps act time pace base (whole before ignore tb b m p taken) t w s j m₁ p₁ b₁ used
 
--- an act on `before` whose steps are those of a run from `from`, carried out as a call does it
-abbrev pub Carries : ℕ → ℕ → ℕ → Device → Device → Acted → List ℕ → List ℕ → List ℕ → List ℕ → List ℕ → List ℕ → ℕ → Type 0
-Carries time pace base before from r w w′ s s′ j j′ used =
-    (m : Act (Unit {0})) → SameSteps m time pace base before from w s j used
-    → toldActed r w′ s′ j′ ≡ toldAfter (replicate (length s) 0) used (perform base (length s) (levelled m) (worldOf before w j used))
+-- what stands after a call that ended so: the one after a refusal, else the other
+unfoldable pub standing : {A : Type 0} → Verdict → A → A → A
+standing Verdict.Accepted x y = y
+standing (Verdict.Refused n) x y = x
+
+-- an act with those steps, carried out as a call does it, but for the arrays after a refusal
+abbrev pub Carries : ℕ → ℕ → ℕ → Small → Bool → Course → Done → List ℕ → List ℕ → List ℕ → List ℕ → List ℕ → List ℕ → List ℕ → List ℕ → List ℕ → List ℕ → List ℕ → List ℕ → List ℕ → List ℕ → List ℕ → List ℕ → List ℕ → ℕ → Type 0
+Carries time pace base before ignore t r w w′ s s′ j j′ tb tb′ b b₁ b′ m m₁ m′ p p₁ p′ used =
+    (taken : List ℕ) → Fine (whole before ignore tb b m p taken) → (act : Act (Unit {0})) → SameSteps act time pace base (whole before ignore tb b m p taken) t w s j m₁ p₁ b₁ used
+    → told (verdictNumber (r .verdict)) Heard.Nothing (standing (r .verdict) (whole (r .small) ignore tb b m p taken) (whole (r .small) ignore tb′ b′ m′ p′ taken)) w′ s′ j′ (r .used)
+    ≡ toldAfter (replicate (length s) 0) used (perform base (length s) (levelled act) (worldOf (whole before ignore tb b m p taken) w j used))
+
+-- the parts are those of a device
+pub record Sounds (s : Small) (ignore : Bool) (tb b m p : List ℕ) : Type 0 where
+  pub taken : List ℕ
+  pub fine : Fine (whole s ignore tb b m p taken)
+
+-- the call, whatever the taken counts are
+abbrev pub asked : Bool → ℕ → ℕ → Asked
+asked again time pace = cond again (service time pace) (run time pace)
+
+abbrev pub Runs : Bool → ℕ → ℕ → ℕ → Small → Bool → Done → List ℕ → List ℕ → List ℕ → List ℕ → List ℕ → List ℕ → List ℕ → List ℕ → List ℕ → List ℕ → List ℕ → List ℕ → List ℕ → List ℕ → ℕ → Type 0
+Runs again time pace base s ignore r w w′ st st′ j j′ tb tb′ b b′ m m′ p p′ used =
+    (taken : List ℕ) → Fine (whole s ignore tb b m p taken)
+    → told (verdictNumber (r .verdict)) Heard.Nothing (whole (r .small) ignore tb′ b′ m′ p′ taken) w′ st′ j′ (r .used) ≡ after (asked again time pace) base (whole s ignore tb b m p taken) w st j used

@@ -1,8 +1,10 @@
 // The public calls run and service: document 01, "The calls" and "Run, service, controllers".
-// Their contracts fix all that is there after a call, for all inputs (crate `rules`, specs/Calls.antt, `after`). The device is taken apart into
-// local arrays once, which the turns are lent, and put together once.
+// Their contracts fix all that is there after a call, for all inputs (crate `rules`, specs/Calls.antt, `after`). A call takes the device apart
+// once, into local arrays, which the turns are lent, and `Small`; all is done on these parts, and the device is put together once. (Copies of
+// the device are what a short run would spend most of its time on.)
 use closing::Noted;
-use closing::Touched;
+use closing::Small;
+use controllers::Levelled;
 use flow::Flow;
 use rules::Acted;
 use rules::Device;
@@ -10,11 +12,12 @@ use rules::Refusal;
 use rules::Verdict;
 use turns::Course;
 use turns::Turned;
+ghost use mathlib.Core.Bool.{true};
 ghost use mathlib.Core.Path.{_≡_};
 ghost use Prim.Native.Nat.{_+_, _^_, _≤_, min};
 ghost use lib.ListN.{length};
 ghost use Rattle.rules.specs.Calls.{verdictNumber, wrong, run as runCall, service as serviceCall, toldActed, after};
-ghost use Rattle.engine.specs.Runs.{courseOf, verdictOf, courseFrom, withCourse, byTurns, RunsAll, Offers, Reaches, Carries};
+ghost use Rattle.engine.specs.Runs.{courseOf, verdictOf, whole, courseFrom, withCourse, RunsAll, Offers, Reaches, Carries, Sounds, Runs};
 
 fn least(a: usize, b: usize) -> usize
     ensures { λ r. ⌜ r ≡ min a b ⌝ }
@@ -58,163 +61,327 @@ fn verdict_of(s: Turned) -> Verdict
     }
 }
 
-// What turns change of a device besides its arrays, where the journal ends at `used`; and a device with that.
-fn course_from(d: Device, used: usize) -> Course
-    ensures { λ r. ⌜ r ≡ courseFrom d used ⌝ }
+// ---- a device in parts
+
+// What turns change besides arrays, where the journal ends at `used`.
+fn course_from(s: Small, used: usize) -> Course
+    ensures { λ r. ⌜ r ≡ courseFrom s used ⌝ }
 {
     Course {
         flow: Flow {
-            cr: d.cr,
-            erq: d.erq,
-            int: d.int,
-            kick: d.kick,
+            cr: s.cr,
+            erq: s.erq,
+            int: s.int,
+            kick: s.kick,
             at: used,
         },
-        deferred: d.deferred,
-        deadline: d.deadline,
+        deferred: s.deferred,
+        deadline: s.deadline,
     }
 }
 
-fn with_course(d: Device, t: Course) -> Device
-    ensures { λ r. ⌜ r ≡ withCourse d t ⌝ }
+// That put in, with controllers and level.
+fn with_course(s: Small, t: Course, l: Levelled) -> Small
+    ensures { λ r. ⌜ r ≡ withCourse s t (l .controllers) (l .level) ⌝ }
 {
     let c = t.flow;
-    let mut e = d;
-    e.cr = c.cr;
-    e.erq = c.erq;
-    e.int = c.int;
-    e.kick = c.kick;
-    e.deferred = t.deferred;
-    e.deadline = t.deadline;
-    e
+    let controllers = l.controllers;
+    Small {
+        erq: c.erq,
+        eei: s.eei,
+        int: c.int,
+        err: s.err,
+        kick: c.kick,
+        deferred: t.deferred,
+        deadline: t.deadline,
+        standing: s.standing,
+        controllers,
+        cr: c.cr,
+        level: l.level,
+    }
 }
 
-// What a run of turns came to: the device, the journal's end, and whether it is refused.
+// A device of these parts; taken counts and the ignore setting are those of `d`.
+fn put_together(
+    d: Device,
+    s: Small,
+    table: [u8; 2048],
+    busy: [u64; 64],
+    majors: [u64; 64],
+    pending: [u32; 64],
+) -> Device
+    ensures { λ r. ⌜ r ≡ whole s (d .«ignore_masks») table busy majors pending (d .taken) ⌝ }
+{
+    let taken = d.taken;
+    let controllers = s.controllers;
+    Device {
+        erq: s.erq,
+        eei: s.eei,
+        int: s.int,
+        err: s.err,
+        kick: s.kick,
+        deferred: s.deferred,
+        deadline: s.deadline,
+        standing: s.standing,
+        table,
+        busy,
+        majors,
+        taken,
+        pending,
+        controllers,
+        cr: s.cr,
+        level: s.level,
+        ignore_masks: d.ignore_masks,
+    }
+}
+
+// ---- the turns of a run
+
+// What a run of turns came to besides arrays: the journal's end, and whether it is refused.
 pub struct Ran {
-    pub device: Device,
+    pub course: Course,
     pub at: usize,
     pub verdict: Verdict,
 }
 
-// All turns of a run from a device. "Staging is [..] all zero after every other run or service."
+// All turns of a run. "Staging is [..] all zero after every other run or service."
 fn run_all(
-    from: Device,
+    t: Course,
+    standing: u64,
     time: u64,
     pace: u64,
     base: u32,
     window: &mut [u8],
+    table: &mut [u8; 2048],
+    majors: &mut [u64; 64],
+    pending: &mut [u32; 64],
+    busy: &mut [u64; 64],
     staging: &mut [u8],
     journal: &mut [u8],
-    used: usize,
 ) -> Ran
     requires { ⌜ (time ≤ 2 ^ 62) × (pace ≤ 1000000) ⌝ }
-    ensures { λ r. ⌜ RunsAll time pace base from r (now (window .entry)) (now (window .exit)) (now (staging .entry)) (now (staging .exit)) (now (journal .entry)) (now (journal .exit)) used ⌝ }
+    ensures { λ r. ⌜ RunsAll time pace base standing t r (now (window .entry)) (now (window .exit)) (now (staging .entry)) (now (staging .exit)) (now (journal .entry)) (now (journal .exit)) (now (table .entry)) (now (table .exit)) (now (majors .entry)) (now (majors .exit)) (now (pending .entry)) (now (pending .exit)) (now (busy .entry)) (now (busy .exit)) ⌝ }
 {
-    let mut table = from.table;
-    let mut majors = from.majors;
-    let mut pending = from.pending;
-    let mut busy = from.busy;
     let s = turns::run_dma_inner(
-        course_from(from, used),
-        from.standing,
+        t,
+        standing,
         time,
         pace,
         window,
         base,
-        &mut table,
-        &mut majors,
-        &mut pending,
-        &mut busy,
+        table,
+        majors,
+        pending,
+        busy,
         staging,
         journal,
     );
     let len = staging.len();
     journal::clear(staging, 0, len);
-    let t = course_of(s);
-    let c = t.flow;
-    let mut e = from;
-    e.table = table;
-    e.majors = majors;
-    e.pending = pending;
-    e.busy = busy;
+    let course = course_of(s);
+    let c = course.flow;
     Ran {
-        device: with_course(e, t),
+        course,
         at: least(c.at, journal.len()),
         verdict: verdict_of(s),
     }
 }
 
 // "Service: each busy time that is not 0 and not past `now` becomes 0. Those channels with ERQ set, and all of DEFERRED, join KICK if they
-// request or are in it; DEFERRED becomes 0."
-fn dma_service(d: Device, time: u64) -> Device
-    ensures { λ r. ⌜ Offers time d r ⌝ }
+// request or are in it; DEFERRED becomes 0": where its turns begin.
+fn dma_service(
+    s: Small,
+    time: u64,
+    pending: &[u32; 64],
+    busy: &mut [u64; 64],
+    used: usize,
+) -> Course
+    ensures { λ r. ⌜ Offers true time s r (now (pending .entry)) (now (busy .entry)) (now (busy .exit)) used ⌝ }
 {
-    let mut busy = d.busy;
-    let back = turns::release(time, d.erq, &mut busy);
-    let mut e = d;
-    e.busy = busy;
-    let asking = controllers::requesting(e);
-    e.deferred = 0;
-    e.kick = d.kick | ((back | d.deferred) & (asking | d.kick));
-    e
+    let back = turns::release(time, s.erq, busy);
+    let asking = controllers::waiting(s.standing, pending);
+    Course {
+        flow: Flow {
+            cr: s.cr,
+            erq: s.erq,
+            int: s.int,
+            kick: s.kick | ((back | s.deferred) & (asking | s.kick)),
+            at: used,
+        },
+        deferred: 0,
+        deadline: s.deadline,
+    }
+}
+
+// The same of a service (`again`) or of a run, which begins with what is there.
+fn offered(
+    again: bool,
+    s: Small,
+    time: u64,
+    pending: &[u32; 64],
+    busy: &mut [u64; 64],
+    used: usize,
+) -> Course
+    ensures { λ r. ⌜ Offers again time s r (now (pending .entry)) (now (busy .entry)) (now (busy .exit)) used ⌝ }
+{
+    if !again {
+        return course_from(s, used);
+    }
+    dma_service(s, time, pending, busy, used)
 }
 
 // ---- a call
 
-// What a run or service can have changed.
-fn touched() -> Touched
-    ensures { λ r. ⌜ r ≡ byTurns ⌝ }
-{
-    Touched {
-        busy: true,
-        majors: true,
-        pending: true,
-        levels: false,
-        taken: false,
-    }
+// What a call came to besides arrays.
+pub struct Done {
+    pub verdict: Verdict,
+    pub used: usize,
+    pub small: Small,
 }
 
-// The turns from a device, then "lines and level anew" and the end of the act. 9, 10 or 11 "leaves window, device and used journal as at
-// entry", and "journal bytes past the used length: zero to the end".
-fn run_dma(
-    before: Device,
-    from: Device,
+// The turns, then "lines and level anew" and the end of the act. 9, 10 or 11 "leaves window, device and used journal as at entry", and "journal
+// bytes past the used length: zero to the end"; but the arrays are left to the caller. `busy`, `majors` and `pending` are those at entry.
+fn carried(
+    before: Small,
+    ignore: bool,
+    t: Course,
     time: u64,
     pace: u64,
     base: u32,
     window: &mut [u8],
+    table: &mut [u8; 2048],
+    busy: &[u64; 64],
+    busy_now: &mut [u64; 64],
+    majors: &[u64; 64],
+    majors_now: &mut [u64; 64],
+    pending: &[u32; 64],
+    pending_now: &mut [u32; 64],
     staging: &mut [u8],
     journal: &mut [u8],
     used: usize,
-) -> Acted
-    requires { ⌜ (time ≤ 2 ^ 62) × (pace ≤ 1000000) × (used ≤ length (now journal)) × (base + length (now window) ≤ 2 ^ 32) × (from .taken ≡ before .taken) × (from .controllers ≡ before .controllers) × Reaches time pace base before from (now window) (now staging) (now journal) used ⌝ }
-    ensures { λ r. ⌜ Carries time pace base before from r (now (window .entry)) (now (window .exit)) (now (staging .entry)) (now (staging .exit)) (now (journal .entry)) (now (journal .exit)) used ⌝ }
+) -> Done
+    requires { ⌜ (time ≤ 2 ^ 62) × (pace ≤ 1000000) × (used ≤ length (now journal)) × (base + length (now window) ≤ 2 ^ 32) × Reaches time pace base before ignore t (now window) (now staging) (now journal) (now table) (now busy) (now «busy_now») (now majors) (now «majors_now») (now pending) (now «pending_now») used ⌝ }
+    ensures { λ r. ⌜ Carries time pace base before ignore t r (now (window .entry)) (now (window .exit)) (now (staging .entry)) (now (staging .exit)) (now (journal .entry)) (now (journal .exit)) (now (table .entry)) (now (table .exit)) (now (busy .entry)) (now («busy_now» .entry)) (now («busy_now» .exit)) (now (majors .entry)) (now («majors_now» .entry)) (now («majors_now» .exit)) (now (pending .entry)) (now («pending_now» .entry)) (now («pending_now» .exit)) used ⌝ }
 {
-    let r = run_all(from, time, pace, base, window, staging, journal, used);
+    let r = run_all(
+        t,
+        before.standing,
+        time,
+        pace,
+        base,
+        window,
+        table,
+        majors_now,
+        pending_now,
+        busy_now,
+        staging,
+        journal,
+    );
     let at = r.at;
     let v = r.verdict;
     let Verdict::Accepted = v else {
         journal::roll_back(window, base, journal, used, at);
-        return Acted {
+        return Done {
             verdict: v,
             used,
-            device: before,
+            small: before,
         };
     };
-    let e = controllers::update_irq(r.device);
-    let Noted::At(end) = closing::end_act(before, e, touched(), journal, used, at) else {
+    let course = r.course;
+    let c = course.flow;
+    let controllers = before.controllers;
+    let settled = with_course(
+        before,
+        course,
+        controllers::relevelled(controllers, c.int, ignore),
+    );
+    let Noted::At(end) = closing::end_turns(
+        before,
+        settled,
+        busy,
+        busy_now,
+        majors,
+        majors_now,
+        pending,
+        pending_now,
+        journal,
+        used,
+        at,
+    ) else {
         journal::roll_back(window, base, journal, used, at);
-        return Acted {
+        return Done {
             verdict: Verdict::Refused(Refusal::Room),
             used,
-            device: before,
+            small: before,
         };
     };
-    Acted {
+    Done {
         verdict: Verdict::Accepted,
         used: least(end, journal.len()),
-        device: e,
+        small: settled,
     }
+}
+
+// A run, or a service (`again`), on a device in parts: after a refusal they are as at entry.
+fn run_dma(
+    again: bool,
+    s: Small,
+    ignore: bool,
+    time: u64,
+    pace: u64,
+    base: u32,
+    window: &mut [u8],
+    table: &mut [u8; 2048],
+    busy: &mut [u64; 64],
+    majors: &mut [u64; 64],
+    pending: &mut [u32; 64],
+    staging: &mut [u8],
+    journal: &mut [u8],
+    used: usize,
+) -> Done
+    requires { ⌜ Sounds s ignore (now table) (now busy) (now majors) (now pending) ⌝ }
+    ensures { λ r. ⌜ Runs again time pace base s ignore r (now (window .entry)) (now (window .exit)) (now (staging .entry)) (now (staging .exit)) (now (journal .entry)) (now (journal .exit)) (now (table .entry)) (now (table .exit)) (now (busy .entry)) (now (busy .exit)) (now (majors .entry)) (now (majors .exit)) (now (pending .entry)) (now (pending .exit)) used ⌝ }
+{
+    let v = tested(time, pace, base, window.len(), journal.len(), used);
+    let Verdict::Accepted = v else {
+        return Done {
+            verdict: v,
+            used,
+            small: s,
+        };
+    };
+    let table_before = *table;
+    let busy_before = *busy;
+    let majors_before = *majors;
+    let pending_before = *pending;
+    let r = carried(
+        s,
+        ignore,
+        offered(again, s, time, pending, busy, used),
+        time,
+        pace,
+        base,
+        window,
+        table,
+        &busy_before,
+        busy,
+        &majors_before,
+        majors,
+        &pending_before,
+        pending,
+        staging,
+        journal,
+        used,
+    );
+    let ended = r.verdict;
+    let Verdict::Accepted = ended else {
+        *table = table_before;
+        *busy = busy_before;
+        *majors = majors_before;
+        *pending = pending_before;
+        return r;
+    };
+    r
 }
 
 // "Run": `now`, pace, base address, window, staging, journal.
@@ -230,19 +397,36 @@ pub fn run(
 ) -> Acted
     ensures { λ r. ⌜ toldActed r (now (window .exit)) (now (staging .exit)) (now (journal .exit)) ≡ after (runCall time pace) base d (now (window .entry)) (now (staging .entry)) (now (journal .entry)) used ⌝ }
 {
-    let v = tested(time, pace, base, window.len(), journal.len(), used);
-    let Verdict::Accepted = v else {
-        return Acted {
-            verdict: v,
-            used,
-            device: d,
-        };
-    };
-    run_dma(d, d, time, pace, base, window, staging, journal, used)
+    let mut table = d.table;
+    let mut busy = d.busy;
+    let mut majors = d.majors;
+    let mut pending = d.pending;
+    let r = run_dma(
+        false,
+        closing::small_of(d),
+        d.ignore_masks,
+        time,
+        pace,
+        base,
+        window,
+        &mut table,
+        &mut busy,
+        &mut majors,
+        &mut pending,
+        staging,
+        journal,
+        used,
+    );
+    let verdict = r.verdict;
+    let small = r.small;
+    Acted {
+        verdict,
+        used: r.used,
+        device: put_together(d, small, table, busy, majors, pending),
+    }
 }
 
-// "Service": the same from the device with its channels offered again; "a run follows if KICK is not 0", which a run of no turns does not
-// tell from none.
+// "Service": "a run follows if KICK is not 0", which a run of no turns does not tell from none.
 pub fn service(
     d: Device,
     time: u64,
@@ -255,14 +439,31 @@ pub fn service(
 ) -> Acted
     ensures { λ r. ⌜ toldActed r (now (window .exit)) (now (staging .exit)) (now (journal .exit)) ≡ after (serviceCall time pace) base d (now (window .entry)) (now (staging .entry)) (now (journal .entry)) used ⌝ }
 {
-    let v = tested(time, pace, base, window.len(), journal.len(), used);
-    let Verdict::Accepted = v else {
-        return Acted {
-            verdict: v,
-            used,
-            device: d,
-        };
-    };
-    let e = dma_service(d, time);
-    run_dma(d, e, time, pace, base, window, staging, journal, used)
+    let mut table = d.table;
+    let mut busy = d.busy;
+    let mut majors = d.majors;
+    let mut pending = d.pending;
+    let r = run_dma(
+        true,
+        closing::small_of(d),
+        d.ignore_masks,
+        time,
+        pace,
+        base,
+        window,
+        &mut table,
+        &mut busy,
+        &mut majors,
+        &mut pending,
+        staging,
+        journal,
+        used,
+    );
+    let verdict = r.verdict;
+    let small = r.small;
+    Acted {
+        verdict,
+        used: r.used,
+        device: put_together(d, small, table, busy, majors, pending),
+    }
 }

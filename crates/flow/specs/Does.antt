@@ -3,7 +3,7 @@ use mathlib.Core.Path.{_≡_}
 use mathlib.Core.List.{List}
 use Prim.Native.Nat.{ℕ}
 use Rattle.rules.specs.Act.{Act}
-use Rattle.rules.specs.Carry.{World, Out, ok, go}
+use Rattle.rules.specs.Carry.{World, ok, go}
 use Rattle.rules.specs.declared.Device.{Device}
 
 -- the device in a world

@@ -17,8 +17,8 @@ use Rattle.rules.specs.Carry.{Machine, Rec, stoodAt, stoodIn, legal, bytesOf, w
 use Rattle.rules.specs.TakeBack.{kind, width, place, value, soundStore, soundKind, sound, allSound, marked, recOf, decode, decodeAll}
 use Rattle.rules.specs.declared.Device.{Device}
 use Rattle.rules.proofs.BoolLaws.{and-left, and-right}
+use Rattle.rules.proofs.Back.{length-rec, length-lines}
 use Rattle.rules.proofs.BytesLaws.{length-splice, value-fits}
-use Rattle.flow.proofs.Laws.{length-line}
 use Rattle.journal.specs.Places.{holding}
 use Rattle.journal.specs.Undoing.{undoLine, undoLines}
 use Rattle.journal.proofs.Laws.{memory-width}
@@ -33,16 +33,6 @@ module _ (k w a v : ℕ) where
   value-back : v < 2 ^ 64 → value (line k w a v) ≡ v
   unfolding value line part bytes
   value-back h = value-fits 8 h
-
-length-rec : (r : Rec) → length (lineOf r) ≡ 16
-unfolding lineOf
-length-rec (stoodAt sp a w v) = length-line (kindOf sp) w a v
-length-rec (stoodIn n v) = length-line 2 8 n v
-
-length-lines : (log : List Rec) → length (linesOf log) ≡ length log * 16
-unfolding linesOf
-length-lines [] = refl
-length-lines (r ∷ rs) = omega (arith, length-append (lineOf r) (linesOf rs), length-rec r, length-lines rs)
 
 module _ (base : ℕ) where
   -- ---- what undoing does to the window's length: nothing

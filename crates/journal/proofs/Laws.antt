@@ -27,10 +27,6 @@ pub legal-table : (w : ℕ) → TableWidth w → legal table w ≡ true
 unfolding legal
 legal-table w h = h .one-of
 
-pub legal-window : (w : ℕ) → MemoryWidth w → legal window w ≡ true
-unfolding legal
-legal-window w h = h .one-of
-
 pub memory-width : (w : ℕ) → legal window w ≡ true → MemoryWidth w
 unfolding legal
 memory-width w e = record { positive = bounds .0; most = bounds .1; one-of = e }

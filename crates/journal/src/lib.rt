@@ -1,7 +1,6 @@
 // The journal: its records, the stores that write them, and their undoing. Document 01, "Journal records".
 use flow::Flow;
 use flow::Step;
-use flow::Walk;
 use rules::Refusal;
 ghost use mathlib.Core.Path.{_≡_};
 ghost use mathlib.Core.List.{_++_};
@@ -11,8 +10,8 @@ ghost use lib.ListN.{length, take, drop, replicate};
 ghost use Rattle.rules.specs.Act.{store, window as inWindow, table as inTable};
 ghost use Rattle.rules.specs.Bytes.{bytes, number, part, splice};
 ghost use Rattle.rules.specs.Carry.{legal, line};
-ghost use Rattle.flow.specs.Worlds.{OnTable, Walks};
-ghost use Rattle.journal.specs.Widths.{MemoryWidth, TableWidth};
+ghost use Rattle.flow.specs.Worlds.{OnTable};
+ghost use Rattle.journal.specs.Widths.{TableWidth};
 ghost use Rattle.journal.specs.Places.{placeOf};
 ghost use Rattle.journal.specs.Undoing.{undoLine, undoLines, RolledBack};
 
@@ -122,32 +121,6 @@ pub fn store_table(
     })
 }
 
-// The same in the window: "9 before 11 at one store".
-pub fn store_window(
-    window: &mut [u8],
-    base: u32,
-    address: u32,
-    width: usize,
-    value: u64,
-    journal: &mut [u8],
-    at: usize,
-) -> Walk
-    requires { ⌜ MemoryWidth width ⌝ }
-    ensures { λ r. ⌜ Walks (store inWindow address width value) base at r (now (window .entry)) (now (window .exit)) (now (journal .entry)) (now (journal .exit)) ⌝ }
-{
-    let Place::At(i) = where_is(window, base, address, width) else {
-        return Walk::Off(Refusal::Outside, at);
-    };
-    if !has_room(journal, at) {
-        return Walk::Off(Refusal::Room, at);
-    }
-    let end = at + 16;
-    let old = get_width(window, i, width);
-    put_record(journal, at, 0, width as u8, address, old);
-    put_width(window, i, width, value);
-    Walk::On(end)
-}
-
 // ---- undoing
 
 // Zeros from `from` up to `to`; the rest stays.
@@ -163,7 +136,7 @@ pub fn clear(s: &mut [u8], from: usize, to: usize)
 }
 
 // "Kind 0: memory store (width 1, 2, 4; address)."
-fn is_memory_width(width: usize) -> bool
+pub fn is_memory_width(width: usize) -> bool
     ensures { λ r. ⌜ r ≡ legal inWindow width ⌝ }
 {
     match width {

@@ -2,15 +2,15 @@
 use mathlib.Core.Bool.{Bool, true, false, cond}
 use mathlib.Core.List.{List}
 use mathlib.Core.Path.{_≡_, refl, sym, ap, _∙_}
-use Prim.Native.Nat.{ℕ, _+_, _*_, _/_, _%_, _^_, _≤_}
+use Prim.Native.Nat.{ℕ, _+_, _*_, _/_, _^_, _≤_}
 use lib.Dec.{eqb}
 use lib.ListN.{length}
 use borrow.Author.Tests.{eq-eqb, ne-eqb}
 use Rattle.rules.specs.Act.{Act, done, ask, _>>=_, _>>_}
 use Rattle.rules.specs.Bytes.{part}
 use Rattle.rules.specs.Carry.{World, Out, ok, go}
-use Rattle.rules.specs.Minor.{tcdOf, ssize, dsize, smod, dmod, moveSizes, moveUnequal, transfer, minorBytes, minorEnd, offset, sourceOffset, destOffset, pass}
-use Rattle.rules.specs.Words.{countOf, sizeOf, wholes, signed}
+use Rattle.rules.specs.Minor.{tcdOf, ssize, dsize, moveSizes, moveUnequal, transfer, minorBytes, minorEnd, offset, sourceOffset, destOffset, pass}
+use Rattle.rules.specs.Words.{countOf, sizeOf, wholes}
 use Rattle.rules.specs.declared.Device.{Device}
 use Rattle.rules.specs.declared.Refusal.{Refusal}
 use Rattle.rules.specs.declared.Tcd.{Tcd}
@@ -23,21 +23,23 @@ use Rattle.flow.proofs.Laws.{on-then, described}
 use Rattle.mover.specs.Moves.{moved}
 use Rattle.mover.specs.declared.Moved.{Moved}
 use Rattle.mover.specs.declared.Moved.the-variants as Moved
+use Rattle.mover.specs.declared.Steps.{Steps}
 use Rattle.minor.specs.Passes.{passed}
+use Rattle.minor.specs.Stepping.{stepsOf}
 use Rattle.minor.specs.declared.Passed.the-variants.{Idle, Ran}
 
 -- ---- a transfer
 
-module _ (t : Tcd) (n : ℕ) {from to soff doff reads : ℕ} (p : from ≡ sizeOf (t .attr / 2 ^ 8)) (q : to ≡ sizeOf (t .attr))
-    (f : soff ≡ signed 16 (t .soff)) (g : doff ≡ signed 16 (t .doff)) (r : reads ≡ wholes n from)
+module _ (t : Tcd) (n : ℕ) {from to reads : ℕ} {step : Steps} (p : from ≡ sizeOf (t .attr / 2 ^ 8)) (q : to ≡ sizeOf (t .attr)) (s : step ≡ stepsOf t)
+    (r : reads ≡ wholes n from)
   where
-    pub transfer-equal : from ≡ to → moveSizes reads soff (t .attr / 2 ^ 11 % 2 ^ 5) doff (t .attr / 2 ^ 3 % 2 ^ 5) from (t .saddr) (t .daddr) ≡ transfer t n
-    unfolding transfer ssize dsize smod dmod
-    transfer-equal e = rw (← p, ← q, ← f, ← g, ← r, eq-eqb from to e)
+    pub transfer-equal : from ≡ to → moveSizes reads (step .soff) (step .smod) (step .doff) (step .dmod) from (t .saddr) (t .daddr) ≡ transfer t n
+    unfolding transfer ssize dsize stepsOf
+    transfer-equal e = rw (s, ← p, ← q, ← r, eq-eqb from to e)
 
-    pub transfer-unequal : (from ≡ to → ⊥) → moveUnequal reads soff (t .attr / 2 ^ 11 % 2 ^ 5) doff (t .attr / 2 ^ 3 % 2 ^ 5) from to (t .saddr) (t .daddr) ≡ transfer t n
-    unfolding transfer ssize dsize smod dmod
-    transfer-unequal e = rw (← p, ← q, ← f, ← g, ← r, ne-eqb from to e)
+    pub transfer-unequal : (from ≡ to → ⊥) → moveUnequal reads (step .soff) (step .smod) (step .doff) (step .dmod) from to (t .saddr) (t .daddr) ≡ transfer t n
+    unfolding transfer ssize dsize stepsOf
+    transfer-unequal e = rw (s, ← p, ← q, ← r, ne-eqb from to e)
 
 -- ---- a pass
 

@@ -11,11 +11,24 @@ ghost use lib.ListN.{length};
 ghost use Rattle.rules.specs.Minor.{transfer, pass};
 ghost use Rattle.stager.specs.Stages.{Stages};
 ghost use Rattle.minor.specs.Passes.{Passes};
+ghost use Rattle.minor.specs.Stepping.{stepsOf};
 
 // What a pass came to: "count 0: nothing happens and the pass answers no"; or what it left.
 pub enum Passed {
     Idle,
     Ran(Step),
+}
+
+// "Offsets `soff` and `doff` are signed 16-bit"; the modulos are 5 bits of `attr` each.
+fn steps_of(t: Tcd) -> Steps
+    ensures { λ r. ⌜ (r ≡ stepsOf t) × (r .smod < 32) × (r .dmod < 32) ⌝ }
+{
+    Steps {
+        soff: words::signed16(t.soff),
+        smod: (t.attr / 0x800 % 32) as u32,
+        doff: words::signed16(t.doff),
+        dmod: (t.attr / 8 % 32) as u32,
+    }
 }
 
 // "Equal sizes: read and write unit by unit"; "unequal: read all first". The bytes are rounded up to whole source sizes.
@@ -33,12 +46,7 @@ fn transfer(
 {
     let ssize = words::size_of(t.attr / 0x100);
     let dsize = words::size_of(t.attr);
-    let step = Steps {
-        soff: words::signed16(t.soff),
-        smod: (t.attr / 0x800 % 32) as u32,
-        doff: words::signed16(t.doff),
-        dmod: (t.attr / 8 % 32) as u32,
-    };
+    let step = steps_of(t);
     let reads = words::whole_sizes(n, ssize);
     let from = t.saddr;
     let to = t.daddr;
@@ -88,16 +96,15 @@ pub fn dma_minor(
     ensures { λ r. ⌜ Passes (pass ch) base (length (now (staging .entry))) c r (now (window .entry)) (now (window .exit)) (now (journal .entry)) (now (journal .exit)) (now (table .entry)) (now (table .exit)) (now (majors .entry)) (now (majors .exit)) ⌝ }
 {
     let t = finish::read_tcd(table, ch);
-    let cr = c.cr;
     if words::count_of(t.citer) == 0 {
         return Passed::Idle;
     }
-    let n = sums::minor_bytes(cr, t);
+    let n = sums::minor_bytes(c.cr, t);
     match transfer(window, base, t, n, staging, journal, c.at) {
         Moved::Not(r, e) => Passed::Ran(Step::Refused(r, with_end(c, e))),
         Moved::To(s, d, e) => {
-            let s1 = sums::moved_on(sums::sources(cr, t), t, s);
-            let d1 = sums::moved_on(sums::dests(cr, t), t, d);
+            let s1 = sums::moved_on(sums::sources(c.cr, t), t, s);
+            let d1 = sums::moved_on(sums::dests(c.cr, t), t, d);
             let next = Step::Going(with_end(c, e));
             Passed::Ran(finish::dma_minor_done(
                 next,

@@ -5,7 +5,7 @@ use flow::Walk;
 use journal::Place;
 use rules::Refusal;
 ghost use mathlib.Core.Path.{_≡_};
-ghost use Prim.Native.Nat.{_≤_, _<_};
+ghost use Prim.Native.Nat.{_+_, _*_, _%_, _^_, _≤_, _<_};
 ghost use Rattle.rules.specs.Act.{store, window as inWindow};
 ghost use Rattle.rules.specs.Minor.{moveUnit, moveUnits, moveSizes};
 ghost use Rattle.words.specs.Sizes.{Sized};
@@ -229,7 +229,15 @@ fn move_sizes4(
 
 // ---- sizes of 16 and 32 bytes, which move in units of 4
 
-// `count` units "at address + k x unit, plainly".
+// Where unit number k of a size is: "at address + k x unit, plainly".
+pub fn unit_at(address: u32, k: u32) -> u32
+    requires { ⌜ k < 8 ⌝ }
+    ensures { λ r. ⌜ r ≡ (address + k * 4) % 2 ^ 32 ⌝ }
+{
+    std::num::wrapping_add_u32(address, k * 4)
+}
+
+// `count` units, "in rising k".
 fn move_units4(
     window: &mut [u8],
     base: u32,
@@ -245,8 +253,8 @@ fn move_units4(
     let mut end = at;
     let mut k: u32 = 0;
     while k < count {
-        let a = std::num::wrapping_add_u32(from, k * 4);
-        let b = std::num::wrapping_add_u32(to, k * 4);
+        let a = unit_at(from, k);
+        let b = unit_at(to, k);
         match move_unit4(window, base, a, b, journal, end) {
             Walk::On(next) => {
                 end = next;

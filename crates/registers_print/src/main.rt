@@ -5,7 +5,6 @@ use rules::Acted;
 use rules::Device;
 use rules::Heard;
 use rules::Reading;
-use rules::Refusal;
 use rules::Verdict;
 
 const DMA: u32 = 0xFC044000;
@@ -29,31 +28,6 @@ fn hex(what: &[u8], n: u64, digits: usize) {
 
 // ---- answers
 
-fn refusal_number(r: Refusal) -> u64 {
-    match r {
-        Refusal::Size => 1,
-        Refusal::Address => 2,
-        Refusal::Register => 3,
-        Refusal::Crossing => 4,
-        Refusal::Window => 5,
-        Refusal::Journal => 6,
-        Refusal::Time => 7,
-        Refusal::Channel => 8,
-        Refusal::Outside => 9,
-        Refusal::Staging => 10,
-        Refusal::Room => 11,
-        Refusal::NothingStands => 12,
-        Refusal::Damaged => 13,
-    }
-}
-
-fn verdict_number(v: Verdict) -> u64 {
-    match v {
-        Verdict::Accepted => 0,
-        Verdict::Refused(r) => refusal_number(r),
-    }
-}
-
 fn number(n: u64) {
     text(b", number ");
     io::print_decimal(STDOUT_FILENO, n);
@@ -63,7 +37,7 @@ fn number(n: u64) {
 fn state(r: Acted) {
     let v = r.verdict;
     let d = r.device;
-    number(verdict_number(v));
+    number(numbers::verdict_number(v) as u64);
     hex(b", kick ", d.kick, 16);
     hex(b", level ", d.level as u64, 1);
     text(b", used ");
@@ -86,7 +60,7 @@ fn see(d: Device, address: u32, size: u32) {
 fn answer(r: Reading) {
     match r {
         Reading::Value(v) => hex(b": ", v as u64, 8),
-        Reading::Refused(why) => number(refusal_number(why)),
+        Reading::Refused(why) => number(numbers::refusal_number(why) as u64),
     }
 }
 
@@ -234,7 +208,7 @@ fn heard(d: Device, ipl: u8) -> Device {
     let v = r.verdict;
     let e = r.device;
     hex(b"acknowledge at ", ipl as u64, 2);
-    number(verdict_number(v));
+    number(numbers::verdict_number(v) as u64);
     match h {
         Heard::Nothing => text(b": nothing\n"),
         Heard::Source(level, vector) => {

@@ -168,7 +168,7 @@ length-lines (r ∷ g) = length-append (lineOf r) (linesOf g) ∙ ap₂ (λ x y.
 unfoldable pub groupBytes : List Rec → List ℕ
 groupBytes g = linesOf g ++ endLine (length g)
 
-length-end : (n : ℕ) → length (endLine n) ≡ 16
+pub length-end : (n : ℕ) → length (endLine n) ≡ 16
 unfolding endLine
 length-end n = length-line 3 0 0 n
 

@@ -3,7 +3,6 @@ use mathlib.Core.Path.{_≡_, refl, sym, ap, _∙_}
 use mathlib.Core.List.{List, [], _∷_, _++_}
 use Prim.Native.Nat.{ℕ, zero, suc, _+_, _*_, _/_, _%_, _^_, _≤_, _<_}
 use native.Mathlib.Nat.{div-div-eq-div-mul, add-zero, add-suc, suc-add, zero-add, pow-succ', mod-eq-of-lt, mod-lt, one-le-pow, zero-lt-suc, mod-one, div-add-mod', add-mul-div-right, add-mul-mod-self-right, mul-assoc, add-mul, add-assoc, add-comm, lt-of-lt-of-le, pow-le-pow-right}
-use native.Mathlib.Numerals.{add-one, towards-suc}
 use native.Mathlib.Omega.{arith}
 use lib.ListN.{length, getD, set, length-set, length-append}
 use lib.Seq.{set-set, set-getD, set-comm, getD-set-same, getD-set-other}
@@ -169,15 +168,6 @@ number-append (x ∷ xs) ys =
     joined : (x p q m n : ℕ) → x * (p * q) + (m * q + n) ≡ (x * p + m) * q + n
     joined x p q m n = rw (add-mul (x * p) m q, mul-assoc x p q, add-assoc (x * (p * q)) (m * q) n)
 
--- one more byte at the end
-pub value-snoc : (bs : List ℕ) (b : ℕ) → number (bs ++ b ∷ []) ≡ number bs * 256 + b
-unfolding number
-value-snoc bs b = number-append bs (b ∷ []) ∙ omega arith
-
-pub part-snoc : (xs : List ℕ) (at n : ℕ) → part xs at (suc n) ≡ part xs at n ++ getD xs (at + n) 0 ∷ []
-unfolding part
-part-snoc xs at n = ap (part xs at) (sym (add-one n)) ∙ part-append xs at n 1
-
 pub bytes-part : (xs : List ℕ) (at n : ℕ) → Bytes xs → Bytes (part xs at n)
 unfolding part
 bytes-part xs at zero h i = omega arith
@@ -236,18 +226,6 @@ part-lt m w at n b h =
 pub splice-nil : (xs : List ℕ) (at : ℕ) → splice xs at [] ≡ xs
 unfolding splice
 splice-nil xs at = refl
-
-pub laid-4 : (s : List ℕ) (at v : ℕ) → v < 2 ^ 32
-    → set (set (set (set s at (v / 16777216)) (at + 1) (v / 65536 % 256)) (at + 2) (v / 256 % 256)) (at + 3) (v % 256) ≡ splice s at (bytes 4 v)
-unfolding bytes
-laid-4 s at v h =
-    let top : v / 16777216 % 256 ≡ v / 16777216 = omega arith in
-    let low : v / 1 % 256 ≡ v % 256 = omega arith in
-    rw (top, low) (simp (towards-suc, ← splice-cons, splice-nil))
-
-pub value-4 : (s : List ℕ) (at : ℕ) → number (part s at 4) ≡ getD s at 0 * 16777216 + getD s (at + 1) 0 * 65536 + getD s (at + 2) 0 * 256 + getD s (at + 3) 0
-unfolding number part
-value-4 s at = simp towards-suc (omega arith)
 
 -- ---- two numbers side by side
 

@@ -4,7 +4,7 @@ use mathlib.Core.List.{List, [], _++_, append-assoc, append-nil}
 use mathlib.Core.Path.{_≡_, refl, sym, ap, _∙_}
 use Prim.Native.Nat.{ℕ, _+_, _%_, _^_, _≤_, min}
 use native.Mathlib.Omega.{arith}
-use lib.ListN.{length, take, drop, length-append, length-take, length-drop}
+use lib.ListN.{length, take, length-append, length-take, length-drop}
 use lib.Seq.{take-at, take-take, length-take-le}
 use Rattle.rules.specs.declared.Device.{Device}
 use Rattle.rules.specs.Act.{Act, Space, Field}

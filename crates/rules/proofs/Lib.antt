@@ -1,3 +1,4 @@
+pub mod AgainstTraps
 pub mod BytesLaws
 pub mod Cut
 pub mod Powers
@@ -31,4 +32,3 @@ pub mod Ends
 pub mod Grown
 pub mod Spares
 pub mod Marked
-pub mod Traps

@@ -1,6 +1,6 @@
 -- Document 01's marked examples, by computation: P1 to P10 as one table, the 'Run only' listing byte for byte, and the run taken back.
 -- Assumes nothing.
-use mathlib.Core.Bool.{Bool, true, false, cond}
+use mathlib.Core.Bool.{Bool, false, cond}
 use mathlib.Core.List.{List, [], _∷_, _++_}
 use mathlib.Core.Path.{_≡_, refl}
 use Prim.Native.Nat.{ℕ, _+_, _-_, _*_, _^_}
@@ -11,9 +11,9 @@ use Rattle.rules.specs.declared.Device.{Device}
 use Rattle.rules.specs.declared.Heard.{Heard}
 use Rattle.rules.specs.declared.Heard.the-variants as Heard
 use Rattle.rules.specs.declared.Tcd.{Tcd}
-use Rattle.rules.specs.Act.{Act, Done, Endless, Stage, Fetch, Store, Ask, Put, Look, Space, window, table, acts, KICK, FORCED, SOURCE}
-use Rattle.rules.specs.Bytes.{bytesRules, bytes, number}
-use Rattle.rules.specs.Calls.{calls, fresh, Asked, run, ack, after, afterBack, Told, told, heardLevel, heardVector}
+use Rattle.rules.specs.Act.{Act, Done, Endless, Stage, Fetch, Store, Ask, Put, Look, window, table, acts, KICK, FORCED, SOURCE}
+use Rattle.rules.specs.Bytes.{bytesRules, bytes}
+use Rattle.rules.specs.Calls.{calls, fresh, run, ack, after, afterBack, Told, told, heardLevel, heardVector}
 use Rattle.rules.specs.Carry.{carry}
 use Rattle.rules.specs.Fields.{fields, withField}
 use Rattle.rules.specs.Lines.{linesRules}

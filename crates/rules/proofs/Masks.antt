@@ -1,12 +1,12 @@
 -- Masks of bits (`specs/Words.antt`), said of `bit`: each bit of a mask that gained, lost or was cut; bounds; the lowest and the highest
 -- set bit. Assumes nothing.
 use mathlib.Core.Path.{_≡_, refl, sym, ap, ap₂, _∙_, subst}
-use Prim.Native.Nat.{ℕ, zero, suc, _+_, _-_, _*_, _/_, _%_, _^_, _≤_, _<_, min, max}
-use native.Mathlib.Nat.{min-le-left, max-le, max-zero, max-eq-right, one-mul, pow-suc, pow-succ', div-one, div-self, div-eq-of-lt, div-div-eq-div-mul, div-eq-of-lt-le, zero-lt-suc, le-of-suc-le-suc, lt-of-lt-of-le, lt-of-le-of-lt, mul-mod-left, mul-div-cancel, zero-div, mod-lt, sub-le, sub-zero}
+use Prim.Native.Nat.{ℕ, zero, suc, _+_, _-_, _*_, _/_, _%_, _^_, _≤_, _<_, min}
+use native.Mathlib.Nat.{one-mul, pow-suc, pow-succ', div-one, div-self, div-eq-of-lt, div-div-eq-div-mul, div-eq-of-lt-le, zero-lt-suc, le-of-suc-le-suc, lt-of-lt-of-le, mul-mod-left, mul-div-cancel, zero-div, mod-lt, sub-le, sub-zero}
 use native.Mathlib.Omega.{arith}
 use lib.Arith.{digits-mod, digits-div, lt-of-le-ne, lt-one}
 use lib.Pow.{pow-pos, pow-lt, pow-mono}
-use lib.Bits.{bitAnd, bitOr, and-step, or-step, and-shr, or-shr, or-lt, and-le-l}
+use lib.Bits.{bitAnd, and-step, or-lt, and-le-l}
 use lib.Count.{trailingZeros, leadingZeros, under, trailing-le, leading-top}
 use Rattle.rules.specs.Words.{gain, lose, without, lowest, highest}
 
@@ -36,22 +36,6 @@ half-below w x h = halve (2 ^ w) (subst (λ (p : ℕ). x < p) (pow-suc 2 w) h)
     halve p h = omega arith
 
 -- ---- each bit of two masks joined
-
-le-one : {n : ℕ} → n < 2 → n ≤ 1
-le-one h = le-of-suc-le-suc h
-
-pub bit-or : (a b i : ℕ) → bit (bitOr a b) i ≡ max (bit a i) (bit b i)
-bit-or a b i =
-    ap (λ (x : ℕ). x % 2) (or-shr a b i ∙ or-step (a / 2 ^ i) (b / 2 ^ i))
-    ∙ digits-mod (bitOr (a / 2 ^ i / 2) (b / 2 ^ i / 2)) {m = 2} {r = max (bit a i) (bit b i)} (two (max-le (le-one (bit-lt a i)) (le-one (bit-lt b i))))
-  where
-    two : {n : ℕ} → n ≤ 1 → n < 2
-    two h = omega arith
-
-pub bit-and : (a b i : ℕ) → bit (bitAnd a b) i ≡ min (bit a i) (bit b i)
-bit-and a b i =
-    ap (λ (x : ℕ). x % 2) (and-shr a b i ∙ and-step (a / 2 ^ i) (b / 2 ^ i))
-    ∙ digits-mod (bitAnd (a / 2 ^ i / 2) (b / 2 ^ i / 2)) {m = 2} {r = min (bit a i) (bit b i)} (lt-of-le-of-lt (min-le-left (bit a i) (bit b i)) (bit-lt a i))
 
 -- ---- a mask cut by another
 
@@ -120,14 +104,6 @@ bit-pow-other (suc i) (suc j) h =
     ∙ ap (λ (x : ℕ). bit x j) (ap (λ (x : ℕ). x / 2) (pow-suc 2 i) ∙ mul-div-cancel (2 ^ i) (zero-lt-suc 1))
     ∙ bit-pow-other i j (λ e. h (ap suc e))
 
-pub gain-same : (m i : ℕ) → bit (gain m i) i ≡ 1
-unfolding gain
-gain-same m i = bit-or m (2 ^ i) i ∙ ap (max (bit m i)) (bit-pow-same i) ∙ max-eq-right (le-one (bit-lt m i))
-
-pub gain-other : (m i j : ℕ) → (i ≡ j → ⊥) → bit (gain m i) j ≡ bit m j
-unfolding gain
-gain-other m i j h = bit-or m (2 ^ i) j ∙ ap (max (bit m j)) (bit-pow-other i j h) ∙ max-zero (bit m j)
-
 pub gain-fits : (w m i : ℕ) → i < w → m < 2 ^ w → gain m i < 2 ^ w
 unfolding gain
 gain-fits w m i h g = or-lt w m (2 ^ i) g (pow-lt h)
@@ -186,10 +162,6 @@ below-trailing (suc w) m j h = go (m % 2) refl j h (λ i k. below-trailing w (m 
     go zero e zero h ih = bit-zero m ∙ e
     go zero e (suc j) h ih = bit-suc m j ∙ ih j (le-of-suc-le-suc h)
     go (suc r) e j h ih = absurd (no-below j h)
-
-pub below-lowest : (m j : ℕ) → j < lowest m → bit m j ≡ 0
-unfolding lowest
-below-lowest m j h = below-trailing 64 m j h
 
 module _ (m : ℕ) (h : 0 < m) (g : m < 2 ^ 64) where
   pub bit-lowest : bit m (lowest m) ≡ 1

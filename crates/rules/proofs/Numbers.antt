@@ -11,7 +11,7 @@ use lib.Dec.{ltb}
 use lib.ListN.{getD, length, List·getD-eq-default}
 use Rattle.rules.specs.declared.Device.{Device}
 use Rattle.rules.specs.Act.{Field, BUSY, MAJORS, PENDING, SOURCE, TAKEN}
-use Rattle.rules.specs.Fields.{joined, fieldsOf, fieldAt, ofController, numberOf, holds}
+use Rattle.rules.specs.Fields.{joined, fieldsOf, fieldAt, ofController, holds}
 use Rattle.rules.proofs.PartLaws.{Within}
 use Rattle.rules.proofs.FieldLaws.{Sound, within, bitParts, fieldBits, Named, Agrees, AllNamed, all-named, holds-number}
 

@@ -2,18 +2,17 @@
 -- 3 the levels of the controllers' sources, 4 taken. Assumes nothing.
 use mathlib.Core.Bool.{Bool, true, false, cond, _&&_, false≢true}
 use mathlib.Core.List.{List, [], _∷_}
-use mathlib.Core.Option.{Option, none, some}
+use mathlib.Core.Option.{Option}
 use mathlib.Core.Path.{_≡_, refl, sym, _∙_}
-use Prim.Native.Nat.{ℕ, zero, suc, _-_, _%_, _^_}
+use Prim.Native.Nat.{ℕ, zero, suc, _-_}
 use lib.Dec.{eqb, ltb}
 use lib.ListN.{getD, set}
 use Rattle.rules.specs.declared.Controller.{Controller}
 use Rattle.rules.specs.declared.Device.{Device}
 use Rattle.rules.specs.Act.{Act, Space, window, table, Field, CR, ERQ, EEI, INT, ERR, KICK, DEFERRED, DEADLINE, LEVEL, STANDING, MASKS, FORCED, LINES, CONFIG, BUSY, MAJORS, PENDING, TAKEN, SOURCE, IGNORE, nothing}
-use Rattle.rules.specs.Bytes.{bytes}
 use Rattle.rules.specs.Calls.{setInputs, setPending, orNothing, levelled}
-use Rattle.rules.specs.Carry.{World, Out, ok, no, stored, withBytesOf, withDevice, recorded, go}
-use Rattle.rules.specs.Fields.{controller, noController, bitsOf, withField}
+use Rattle.rules.specs.Carry.{World, stored, withBytesOf, withDevice, recorded, go}
+use Rattle.rules.specs.Fields.{controller, withField}
 use Rattle.rules.specs.Lines.{Found, sources, levelBytes, levelOf, relevel, heardFrom, hear, acknowledge}
 use Rattle.rules.specs.Registers.{within, inTable, flagOne, flagEach, setRequests, setStarts, clearDones, command, commands, tableWrite, Arm, pick, dmaArms, dmaWrite, levelsWrite, controllerArms, controllerWrite}
 use Rattle.rules.specs.Run.{waiting, requesting}
@@ -21,7 +20,6 @@ use Rattle.rules.specs.With.{withMasks, withForced, withLines, withConfi
 use Rattle.rules.specs.Words.{has}
 use Rattle.rules.proofs.Each.{Rights, Each, at-done, _>>=_, _>>_, each-fetch, each-store, each-ask, each-put, each-change, each-look, each-when, each-cond, Proper, Properly, each-keeps}
 use Rattle.rules.proofs.Keeps.{AtEnd}
-use Rattle.rules.proofs.Steps.{putting}
 
 infixr 20 _also_
 -- ---- the arrays that are the same before and after

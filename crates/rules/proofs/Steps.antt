@@ -7,9 +7,9 @@ use native.Mathlib.Nat.{mod-eq-of-lt}
 use borrow.Author.Tests.{le-leb, lt-leb}
 use lib.Dec.{leb}
 use lib.ListN.{length}
-use Rattle.rules.specs.Act.{Act, Done, Endless, Stage, Fetch, Store, Ask, Put, Look, Space, window, table, Field, Setting, _>>=_, _>>_, nothing, stage, fetch, store, ask, put, change, look, when}
-use Rattle.rules.specs.Fields.{bitsOf, holds, withField, settingOf}
-use Rattle.rules.specs.Carry.{Machine, World, Out, ok, no, withDevice, there, legal, fetched, recorded, go, made, unmade, lastLines, written, cleared, leave}
+use Rattle.rules.specs.Act.{Act, Done, Endless, Stage, Fetch, Store, Ask, Put, Look, Space, window, table, Field, _>>=_, _>>_, nothing, store, ask, put, change}
+use Rattle.rules.specs.Fields.{bitsOf, holds, withField}
+use Rattle.rules.specs.Carry.{Machine, World, Out, ok, no, withDevice, there, legal, fetched, recorded, go, unmade, lastLines, cleared, leave}
 use Rattle.rules.proofs.BoolLaws.{and-both}
 
 -- ---- composition
@@ -141,14 +141,6 @@ module _ (base staging : ℕ) {A : Type 0} where
     unfolding go
     store-full h l r = rw (h, l, lt-leb 16 (length (u .free)) r, go)
 
-  pub go-ask : (f : Field) (k : ℕ → Act A) (u : World) → go base staging (Ask f k) u ≡ go base staging (k (holds f (u .now .dev))) u
-  unfolding go
-  go-ask f k u = refl
-
-  pub go-look : (s : Setting) (k : Bool → Act A) (u : World) → go base staging (Look s k) u ≡ go base staging (k (settingOf s (u .now .dev))) u
-  unfolding go
-  go-look s k u = refl
-
   module _ (f : Field) (v : ℕ) (k : Act A) (u : World) where
     pub go-put : go base staging (Put f v k) u ≡ go base staging k (putting f (v % 2 ^ bitsOf f) u)
     unfolding go
@@ -160,23 +152,6 @@ module _ (base staging : ℕ) {A : Type 0} where
 -- ---- one step alone
 
 module _ (base staging : ℕ) (u : World) where
-  pub stage-does : (n : ℕ) → n ≤ staging → go base staging (stage n) u ≡ ok tt u
-  unfolding go stage
-  stage-does n h = stage-enough base staging n nothing u h
-
-  pub stage-refused : (n : ℕ) → staging < n → go base staging (stage n) u ≡ no 10 u
-  unfolding stage
-  stage-refused n h = stage-short base staging n nothing u h
-
-  module _ (sp : Space) (a n : ℕ) where
-    pub fetch-does : there base sp a n (u .now) ≡ true → go base staging (fetch sp a n) u ≡ ok (fetched base sp a n (u .now)) u
-    unfolding go fetch
-    fetch-does h = fetch-inside base staging sp a n (λ l. Done l) u h
-
-    pub fetch-refused : there base sp a n (u .now) ≡ false → go base staging (fetch sp a n) u ≡ no 9 u
-    unfolding fetch
-    fetch-refused h = fetch-outside base staging sp a n (λ l. Done l) u h
-
   module _ (sp : Space) (a n v : ℕ) where
     pub store-does : there base sp a n (u .now) ≡ true → legal sp n ≡ true → 16 ≤ length (u .free)
         → go base staging (store sp a n v) u ≡ ok tt (recorded base sp a n v u)
@@ -195,10 +170,6 @@ module _ (base staging : ℕ) (u : World) where
   unfolding go ask
   ask-does f = refl
 
-  pub look-does : (s : Setting) → go base staging (look s) u ≡ ok (settingOf s (u .now .dev)) u
-  unfolding go look
-  look-does s = refl
-
   module _ (f : Field) where
     pub put-does : (v : ℕ) → v < 2 ^ bitsOf f → go base staging (put f v) u ≡ ok tt (putting f v u)
     unfolding go put
@@ -208,21 +179,9 @@ module _ (base staging : ℕ) (u : World) where
     unfolding go change
     change-does g h = put-fits base staging f (g (holds f (u .now .dev))) nothing u h
 
-  pub when-true : (m : Act (Unit {0})) → go base staging (when true m) u ≡ go base staging m u
-  unfolding when
-  when-true m = refl
-
-  pub when-false : (m : Act (Unit {0})) → go base staging (when false m) u ≡ ok tt u
-  unfolding go when
-  when-false m = refl
-
 -- ---- the end of an act that began at u
 
 module _ {A : Type 0} (u v : World) where
-  pub leave-made : (a : A) → length (lastLines u v) ≤ length (v .free) → leave u (ok a v) ≡ made a (written (lastLines u v) v)
-  unfolding leave
-  leave-made a h = rw (le-leb (length (lastLines u v)) (length (v .free)) h, leave)
-
   pub leave-full : (a : A) → length (v .free) < length (lastLines u v) → leave u (ok a v) ≡ unmade 11 (cleared u)
   unfolding leave
   leave-full a h = rw (lt-leb (length (lastLines u v)) (length (v .free)) h, leave)

@@ -1,14 +1,14 @@
 -- Document 01, "The calls" and "Refusal numbers": what each call is given, what refuses it before anything is done, its act, and all that is
 -- there after it. Assumes nothing.
-use mathlib.Core.Bool.{Bool, true, false, cond, not, _&&_, _||_}
+use mathlib.Core.Bool.{Bool, true, false, not, _||_}
 use mathlib.Core.List.{List, [], _∷_, _++_}
 use mathlib.Core.Option.{Option, none, some}
-use Prim.Native.Nat.{ℕ, zero, suc, _+_, _-_, _*_, _/_, _%_, _^_}
+use Prim.Native.Nat.{ℕ, zero, suc, _+_, _-_, _%_, _^_}
 use lib.Bits.{bitAnd, bitOr}
-use lib.Dec.{eqb, leb, ltb}
-use lib.ListN.{getD, length, replicate, take, drop}
+use lib.Dec.{eqb, ltb}
+use lib.ListN.{length, replicate, take, drop}
 use Rattle.rules.specs.Act.{Act, done, nothing, ask, put, change, _>>=_, _>>_, ERQ, KICK, STANDING, LINES, PENDING}
-use Rattle.rules.specs.Carry.{Machine, World, After, made, unmade, perform}
+use Rattle.rules.specs.Carry.{World, After, made, unmade, perform}
 use Rattle.rules.specs.TakeBack.{takeBack}
 use Rattle.rules.specs.Run.{requesting, runAll, serviceAll}
 use Rattle.rules.specs.Lines.{ownedFrom, relevel, acknowledge}

@@ -1,10 +1,10 @@
 -- An act carried out with a journal: document 01, "Journal records", and refusals 9, 10 and 11. Assumes nothing.
 use mathlib.Core.Bool.{Bool, true, false, _&&_, _||_}
 use mathlib.Core.List.{List, [], _∷_, _++_}
-use Prim.Native.Nat.{ℕ, zero, suc, _+_, _-_, _*_, _/_, _%_, _^_}
+use Prim.Native.Nat.{ℕ, suc, _+_, _-_, _/_, _%_, _^_}
 use lib.Dec.{eqb, leb}
 use lib.ListN.{length, drop, replicate}
-use Rattle.rules.specs.Act.{Act, Done, Endless, Stage, Fetch, Store, Ask, Put, Look, Space, window, table, Field}
+use Rattle.rules.specs.Act.{Act, Done, Endless, Stage, Fetch, Store, Ask, Put, Look, Space, window, table}
 use Rattle.rules.specs.declared.Device.{Device}
 use Rattle.rules.specs.With.{withTable}
 use Rattle.rules.specs.Fields.{bitsOf, holds, withField, settingOf, withNumber, fieldsOf}

@@ -1,11 +1,11 @@
 -- Document 01, "Run, service, controllers": lines, level, acknowledge. Assumes nothing.
-use mathlib.Core.Bool.{Bool, true, false, cond, not, _&&_, _||_}
+use mathlib.Core.Bool.{Bool, cond, not, _&&_, _||_}
 use mathlib.Core.List.{List, [], _∷_}
 use Prim.Native.Nat.{ℕ, zero, suc, _+_, _*_, _/_, _%_, _^_, max}
 use lib.Bits.{bitOr}
 use lib.Dec.{eqb, leb, ltb}
 use lib.ListN.{getD}
-use Rattle.rules.specs.Act.{Act, done, nothing, ask, put, change, look, _>>=_, _>>_, INT, LEVEL, MASKS, FORCED, LINES, SOURCE, TAKEN, IGNORE}
+use Rattle.rules.specs.Act.{Act, done, ask, put, change, look, _>>=_, _>>_, INT, LEVEL, MASKS, FORCED, LINES, SOURCE, TAKEN, IGNORE}
 use Rattle.rules.specs.Words.{has, without}
 use Rattle.rules.specs.declared.Heard.{Heard}
 use Rattle.rules.specs.declared.Heard.the-variants as Heard

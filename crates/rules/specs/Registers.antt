@@ -1,13 +1,13 @@
 -- Document 01, "The calls": the registers, exactly the arms of `edma_read`, `edma_write`, `intc_read` and `intc_write`, and the descriptor
 -- table at DMA offsets 0x1000..0x17FF. Assumes nothing.
-use mathlib.Core.Bool.{Bool, true, false, cond, _&&_, _||_}
+use mathlib.Core.Bool.{Bool, cond, _&&_}
 use mathlib.Core.List.{List, [], _∷_}
 use mathlib.Core.Option.{Option, none, some}
 use Prim.Native.Nat.{ℕ, zero, suc, _+_, _-_, _*_, _/_, _%_, _^_}
 use lib.Bits.{bitAnd, bitOr}
 use lib.Dec.{eqb, leb, ltb}
 use lib.ListN.{getD}
-use Rattle.rules.specs.Act.{Act, nothing, fetch, store, ask, put, change, when, table, _>>=_, _>>_, CR, ERQ, EEI, INT, ERR, KICK, MASKS, FORCED, CONFIG, SOURCE}
+use Rattle.rules.specs.Act.{Act, nothing, fetch, store, put, change, when, table, _>>=_, _>>_, CR, ERQ, EEI, INT, ERR, KICK, MASKS, FORCED, CONFIG, SOURCE}
 use Rattle.rules.specs.Bytes.{bytes, number, part, splice}
 use Rattle.rules.specs.Words.{has, gain, lose, without}
 use Rattle.rules.specs.Minor.{START, DONE}

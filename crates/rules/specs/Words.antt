@@ -1,10 +1,10 @@
 -- Document 01, "Descriptors and one minor loop": sizes, sums, counts; and masks of bits. Assumes nothing.
-use mathlib.Core.Bool.{Bool, true, false, cond}
-use mathlib.Core.List.{List, [], _∷_}
-use Prim.Native.Nat.{ℕ, zero, suc, _+_, _-_, _*_, _/_, _%_, _^_, min}
+use mathlib.Core.Bool.{Bool, cond}
+use mathlib.Core.List.{[], _∷_}
+use Prim.Native.Nat.{ℕ, _+_, _-_, _*_, _/_, _%_, _^_, min}
 use lib.Bits.{bitAnd, bitOr}
 use lib.Count.{trailingZeros, leadingZeros}
-use lib.Dec.{eqb, leb, ltb}
+use lib.Dec.{eqb, ltb}
 use lib.ListN.{getD}
 
 -- ---- masks. A mask is a number; its bit i is asked by / and %, gained by `bitOr`, and lost by taking away what `bitAnd` finds.

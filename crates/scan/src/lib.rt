@@ -41,23 +41,11 @@ fn is_table_width(width: usize) -> bool
     }
 }
 
-// "Kind 0: memory store (width 1, 2, 4; address)."
-fn is_memory_width(width: usize) -> bool
-    ensures { λ r. ⌜ r ≡ legal inWindow width ⌝ }
-{
-    match width {
-        1 => true,
-        2 => true,
-        4 => true,
-        _ => false,
-    }
-}
-
 // A memory record: "a wrong .. width", "a place outside .. window". Its value may take as many bytes as it is wide.
 fn window_head(base: u32, window: &[u8], place: u32, width: usize) -> Head
     ensures { λ r. ⌜ Judges r (soundStore base (holding (now (window .entry))) inWindow width place) ⌝ }
 {
-    if !is_memory_width(width) {
+    if !journal::is_memory_width(width) {
         return Head::Damaged;
     }
     let Place::At(_) = journal::where_is(window, base, place, width) else {

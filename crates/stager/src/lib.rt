@@ -157,7 +157,7 @@ fn read_units4(
     let mut end = len;
     let mut k: u32 = 0;
     while k < count {
-        let a = std::num::wrapping_add_u32(from, k * 4);
+        let a = mover::unit_at(from, k);
         if !read_unit4(window, base, a, staging, end) {
             return false;
         }
@@ -340,7 +340,7 @@ fn write_units4(
     let mut end = at;
     let mut k: u32 = 0;
     while k < count {
-        let b = std::num::wrapping_add_u32(to, k * 4);
+        let b = mover::unit_at(to, k);
         let v = words::get4(staging, pos + (k * 4) as usize);
         match mover::store4(window, base, b, v, journal, end) {
             Walk::On(next) => {
@@ -448,32 +448,17 @@ pub fn move_unequal(
     if staging.len() < all {
         return Moved::Not(Refusal::Staging, at);
     }
-    let Read::At(s) = read_sizes(
-        window,
-        base,
-        ssize,
-        reads,
-        step.soff,
-        step.smod,
-        from,
-        staging,
-    ) else {
+    let soff = step.soff;
+    let smod = step.smod;
+    let r = read_sizes(window, base, ssize, reads, soff, smod, from, staging);
+    let Read::At(s) = r else {
         return Moved::Not(Refusal::Outside, at);
     };
     let count = total / dsize;
     let got = &staging[..all];
-    match write_sizes(
-        window,
-        base,
-        dsize,
-        count,
-        step.doff,
-        step.dmod,
-        to,
-        got,
-        journal,
-        at,
-    ) {
+    let doff = step.doff;
+    let dmod = step.dmod;
+    match write_sizes(window, base, dsize, count, doff, dmod, to, got, journal, at) {
         Wrote::To(d, e) => Moved::To(s, d, e),
         Wrote::Not(n, e) => Moved::Not(n, e),
     }

@@ -1,9 +1,9 @@
 -- A turn, by cases, as the code makes it; and turns one after another: what is left to do from where the loop stands is the whole from where it
 -- began. Assumes nothing.
-use mathlib.Core.Bool.{Bool, true, false, cond, not, _||_}
+use mathlib.Core.Bool.{Bool, true, false, cond}
 use mathlib.Core.List.{List}
-use mathlib.Core.Path.{_≡_, refl, sym, ap, _∙_}
-use Prim.Native.Nat.{ℕ, zero, suc, _+_, _-_, _*_, _^_, _≤_, _<_, min}
+use mathlib.Core.Path.{_≡_, refl, sym, _∙_}
+use Prim.Native.Nat.{ℕ, suc, _+_, _-_, _*_, _^_, _≤_, _<_, min}
 use native.Mathlib.Nat.{mod-eq-of-lt, mul-le-mul-left}
 use native.Mathlib.Omega.{arith}
 use borrow.Author.Tests.{eq-eqb, ne-eqb, lt-ltb, le-ltb}
@@ -20,7 +20,7 @@ use Rattle.rules.specs.Words.{has, gain, lose, lowest}
 use Rattle.rules.specs.declared.Device.{Device}
 use Rattle.rules.specs.declared.Refusal.{Refusal}
 use Rattle.rules.proofs.Steps.{putting, go-done, bind-ok, bind-no, then-ok, change-does}
-use Rattle.flow.specs.Worlds.{world, told}
+use Rattle.flow.specs.Worlds.{told}
 use Rattle.flow.specs.declared.Flow.{Flow}
 use Rattle.flow.specs.declared.Step.{Step}
 use Rattle.flow.specs.declared.Step.the-variants.{Going, Refused}

@@ -9,6 +9,7 @@ ghost use mathlib.Core.List.{List};
 ghost use Prim.Native.Nat.{ℕ, _^_, _≤_, _<_, min};
 ghost use lib.ListN.{length};
 ghost use Rattle.rules.specs.Run.{serveLine, serve, turn, runAll, over};
+ghost use Rattle.rules.specs.Words.{lowest};
 ghost use Rattle.turns.specs.Frees.{freed, freeing, Frees};
 ghost use Rattle.turns.specs.Turns.{Turns, atStep};
 
@@ -208,7 +209,15 @@ pub fn turn(
 
 // ---- a run of turns
 
-// "At most 4,096 turns: the lowest set bit of KICK is served next and goes first."
+// "The lowest set bit of KICK is served next".
+fn next_channel(kick: u64) -> usize
+    requires { ⌜ 0 < kick ⌝ }
+    ensures { λ r. ⌜ (r ≡ lowest kick) × (r < 64) ⌝ }
+{
+    words::lowest_bit(kick)
+}
+
+// "At most 4,096 turns": the next channel "goes first".
 pub fn run_dma_inner(
     t: Course,
     standing: u64,
@@ -234,7 +243,7 @@ pub fn run_dma_inner(
         if kick == 0 {
             return Turned::On(s);
         }
-        let ch = words::lowest_bit(kick);
+        let ch = next_channel(kick);
         let r = turn(
             s,
             standing,

@@ -4,7 +4,7 @@ ghost use mathlib.Core.Path.{_≡_};
 ghost use Prim.Native.Nat.{_+_, _*_, _^_, _≤_, _<_};
 ghost use lib.ListN.{length};
 ghost use Rattle.rules.specs.Bytes.{bytes, number, part, splice};
-ghost use Rattle.rules.specs.Words.{has, gain, lose, without, lowest, highest, sizeOf, unitOf, wholes, signed, moduloAdd, linked, countOf, linkOf, recount};
+ghost use Rattle.rules.specs.Words.{has, gain, lose, without, lowest, highest, sizeOf, wholes, signed, moduloAdd, linked, countOf, linkOf, recount};
 ghost use Rattle.words.specs.Sizes.{Sized};
 
 // "Size codes 0, 1, 2, 4, 5 mean 1, 2, 4, 16, 32 bytes; 3, 6, 7 mean 1."
@@ -15,13 +15,6 @@ pub fn size_of(code: u16) -> u32
     ensures { λ r. ⌜ (r ≡ sizeOf code) × (Sized r) ⌝ }
 {
     SIZES[(code % 8) as usize]
-}
-
-// "A size moves in units (the size, at most 4 bytes)".
-pub fn unit_of(size: u32) -> u32
-    ensures { λ r. ⌜ r ≡ unitOf size ⌝ }
-{
-    if size < 4 { size } else { 4 }
 }
 
 // "Rounding up to whole sizes": how many of them `n` bytes take. A byte count is at most 2^22, so that all their bytes fit.

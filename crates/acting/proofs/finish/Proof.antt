@@ -1,12 +1,8 @@
+-- `acting::finish` meets its contract. Assumes nothing.
 use Rattle.acting.proofs.Laws.{since-then, ended-full, ended-at}
 use borrow.Author.Needs.{needs}
 use Rattle.acting.proofs.finish.Statement.{statement}
 use Rattle.acting.proofs.finish.Tie as tie
-use Rattle.acting.proofs.finish.Reads as reads
-use Rattle.acting.proofs.finish.Lts as lts
-use Rattle.acting.proofs.least.Reads as least-reads
-use Rattle.acting.proofs.taken_back.Reads as taken-back-reads
-use Rattle.closing.proofs.end_act.Reads as end-act-reads
 
 end-act-requires : tie.Need-end-act-requires
 end-act-requires c κs = search needs

@@ -1,3 +1,4 @@
+-- `acting::settle` meets its contract. Assumes nothing.
 use Rattle.rules.specs.declared.Heard.the-variants as Heard
 use Rattle.acting.proofs.Laws.{world-least, grown-on, grown-off, levelled-on, levelled-off, since, spared, settled, settled-not}
 use Rattle.rules.proofs.Spares.{levelled-spares}
@@ -6,12 +7,6 @@ use mathlib.Core.List.{[]}
 use borrow.Author.Needs.{needs}
 use Rattle.acting.proofs.settle.Statement.{statement}
 use Rattle.acting.proofs.settle.Tie as tie
-use Rattle.acting.proofs.settle.Reads as reads
-use Rattle.acting.proofs.settle.Lts as lts
-use Rattle.acting.proofs.finish.Reads as finish-reads
-use Rattle.acting.proofs.least.Reads as least-reads
-use Rattle.acting.proofs.taken_back.Reads as taken-back-reads
-use Rattle.controllers.proofs.update_irq.Reads as update-irq-reads
 
 enum-known-w : tie.Need-enum-known-w
 enum-known-w c = search needs

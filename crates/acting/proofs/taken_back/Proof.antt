@@ -1,11 +1,8 @@
+-- `acting::taken_back` meets its contract. Assumes nothing.
 use Rattle.acting.proofs.Laws.{back-again}
 use borrow.Author.Needs.{needs}
 use Rattle.acting.proofs.taken_back.Statement.{statement}
 use Rattle.acting.proofs.taken_back.Tie as tie
-use Rattle.acting.proofs.taken_back.Reads as reads
-use Rattle.acting.proofs.taken_back.Lts as lts
-use Rattle.acting.proofs.refused.Reads as refused-reads
-use Rattle.journal.proofs.clear.Reads as clear-reads
 
 clear-requires : tie.Need-clear-requires
 clear-requires c κs = search needs

@@ -79,6 +79,9 @@ clear-requires c κs =
     let s = group-stands (c .before .before .before .before .before .before .before .before .last-group .ensures) (c .before .before .before .before .before .before .from .given .1) in
     (omega (arith, s .long, length-take-le (a .used) (a .journal .now) fits), omega (arith, fits))
 
+accepted-requires : tie.Need-accepted-requires
+accepted-requires c κs = search needs
+
 same-length-3 : tie.Need-same-length-3
 same-length-3 c = search needs
 
@@ -87,9 +90,9 @@ same-length-4 c = search needs
 
 returns-5 : tie.Need-returns-5
 returns-5 c =
-    let a = c .before .before .before .before .before .before .before .before .before .before .before .before .before .before .before .before .before .before .before .before .before in
-    accepted _ _ _ _ _ (sym (c .before .before .before .before .before .before .before .before .before .before .before .before .before .before .before .before .before .before .bad-window .ensures) ∙ c .before .before .before .before .before .before .before .before .before .before .before .before .before .before .before .before .before .if1 .left) (sym (c .before .before .before .before .before .before .before .before .before .before .before .before .before .before .before .before .bad-journal .ensures) ∙ c .before .before .before .before .before .before .before .before .before .before .before .before .before .before .before .if2 .left) (table-size (a .args .d) (a .good .0))
-    (c .before .before .before .before .before .before .before .before .before .before .before .last-group .ensures) (c .before .before .before .before .before .before .before .before .before .from .given .1) (c .before .before .before .before .before .before .undo-group .ensures) (c .before .before .clear .ensures)
+    let a = c .before .before .before .before .before .before .before .before .before .before .before .before .before .before .before .before .before .before .before .before .before .before in
+    accepted _ _ _ _ _ (sym (c .before .before .before .before .before .before .before .before .before .before .before .before .before .before .before .before .before .before .before .bad-window .ensures) ∙ c .before .before .before .before .before .before .before .before .before .before .before .before .before .before .before .before .before .before .if1 .left) (sym (c .before .before .before .before .before .before .before .before .before .before .before .before .before .before .before .before .before .bad-journal .ensures) ∙ c .before .before .before .before .before .before .before .before .before .before .before .before .before .before .before .before .if2 .left) (table-size (a .args .d) (a .good .0))
+    (c .before .before .before .before .before .before .before .before .before .before .before .before .last-group .ensures) (c .before .before .before .before .before .before .before .before .before .before .from .given .1) (c .before .before .before .before .before .before .before .undo-group .ensures) (c .before .before .before .clear .ensures) (c .accepted .ensures)
 
 pub take-back-spec : {M : Type 1} → statement M
 take-back-spec =
@@ -114,6 +117,7 @@ take-back-spec =
     returns-4
     undo-group-requires
     clear-requires
+    accepted-requires
     same-length-3
     same-length-4
     returns-5)

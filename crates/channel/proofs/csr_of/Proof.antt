@@ -1,10 +1,8 @@
+-- `channel::csr_of` meets its contract. Assumes nothing.
 use Rattle.channel.proofs.Reading.{csr-read}
 use borrow.Author.Needs.{needs}
 use Rattle.channel.proofs.csr_of.Statement.{statement}
 use Rattle.channel.proofs.csr_of.Tie as tie
-use Rattle.channel.proofs.csr_of.Reads as reads
-use Rattle.channel.proofs.csr_of.Lts as lts
-use Rattle.words.proofs.get2.Reads as get2-reads
 
 mul-get2 : tie.Need-mul-get2
 mul-get2 c = search needs

@@ -1,3 +1,4 @@
+-- `channel::line_loop` meets its contract. Assumes nothing.
 use mathlib.Core.Path.{_≡_, refl, sym, _∙_}
 use Rattle.channel.proofs.Passing.{line-idle, line-off, line-done, line-over, line-again, line-out, broken-small}
 use Rattle.rules.specs.Run.{lineLoop, linePasses}
@@ -9,13 +10,6 @@ use Rattle.rules.specs.Carry.{go}
 use Rattle.flow.specs.Worlds.{world}
 use Rattle.channel.proofs.line_loop.Statement.{statement}
 use Rattle.channel.proofs.line_loop.Tie as tie
-use Rattle.channel.proofs.line_loop.Reads as reads
-use Rattle.channel.proofs.line_loop.Lts as lts
-use Rattle.channel.proofs.at_sum.Reads as at-sum-reads
-use Rattle.channel.proofs.csr_of.Reads as csr-of-reads
-use Rattle.channel.proofs.nbytes_of.Reads as nbytes-of-reads
-use Rattle.minor.proofs.dma_minor.Reads as dma-minor-reads
-use Rattle.words.proofs.has_bit.Reads as has-bit-reads
 
 abbrev Inv-loop : tie.InvT-loop
 Inv-loop window₀ base table₀ majors₀ staging₀ journal₀ f₀ sum₀ left₀ window table majors staging journal f sum left =

@@ -1,10 +1,8 @@
+-- `channel::nbytes_of` meets its contract. Assumes nothing.
 use Rattle.channel.proofs.Reading.{nbytes-read}
 use borrow.Author.Needs.{needs}
 use Rattle.channel.proofs.nbytes_of.Statement.{statement}
 use Rattle.channel.proofs.nbytes_of.Tie as tie
-use Rattle.channel.proofs.nbytes_of.Reads as reads
-use Rattle.channel.proofs.nbytes_of.Lts as lts
-use Rattle.words.proofs.get4.Reads as get4-reads
 
 mul-get4 : tie.Need-mul-get4
 mul-get4 c = search needs

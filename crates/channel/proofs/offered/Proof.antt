@@ -1,11 +1,9 @@
+-- `channel::offered` meets its contract. Assumes nothing.
 use borrow.Author.Tests.{not-true, not-false}
 use Rattle.channel.proofs.Reading.{offered-off, offered-standing, offered-pending}
 use borrow.Author.Needs.{needs}
 use Rattle.channel.proofs.offered.Statement.{statement}
 use Rattle.channel.proofs.offered.Tie as tie
-use Rattle.channel.proofs.offered.Reads as reads
-use Rattle.channel.proofs.offered.Lts as lts
-use Rattle.words.proofs.has_bit.Reads as has-bit-reads
 
 has-bit-requires : tie.Need-has-bit-requires
 has-bit-requires c κs = search needs

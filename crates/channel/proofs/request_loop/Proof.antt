@@ -1,3 +1,4 @@
+-- `channel::request_loop` meets its contract. Assumes nothing.
 use borrow.Author.Tests.{not-true, not-false}
 use Rattle.channel.proofs.Passing.{request-stop, request-idle, request-off, request-again, request-out}
 use Rattle.rules.specs.With.{withPending}
@@ -10,11 +11,6 @@ use Rattle.rules.specs.Carry.{go}
 use Rattle.flow.specs.Worlds.{world}
 use Rattle.channel.proofs.request_loop.Statement.{statement}
 use Rattle.channel.proofs.request_loop.Tie as tie
-use Rattle.channel.proofs.request_loop.Reads as reads
-use Rattle.channel.proofs.request_loop.Lts as lts
-use Rattle.minor.proofs.dma_minor.Reads as dma-minor-reads
-use Rattle.channel.proofs.offered.Reads as offered-reads
-use Rattle.channel.proofs.spend.Reads as spend-reads
 
 abbrev Inv-loop : tie.InvT-loop
 Inv-loop standing window₀ base table₀ majors₀ pending₀ ch staging₀ journal₀ f₀ left₀ window table majors pending staging journal f left =

@@ -1,9 +1,7 @@
+-- `channel::spend` meets its contract. Assumes nothing.
 use borrow.Author.Needs.{needs}
 use Rattle.channel.proofs.spend.Statement.{statement}
 use Rattle.channel.proofs.spend.Tie as tie
-use Rattle.channel.proofs.spend.Reads as reads
-use Rattle.channel.proofs.spend.Lts as lts
-use Rattle.channel.proofs.less_one.Reads as less-one-reads
 
 mul-count : tie.Need-mul-count
 mul-count c = search needs

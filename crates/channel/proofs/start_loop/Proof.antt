@@ -1,3 +1,4 @@
+-- `channel::start_loop` meets its contract. Assumes nothing.
 use Rattle.channel.proofs.Passing.{start-idle, start-off, start-stop, start-again, start-out}
 use Rattle.rules.specs.Run.{startLoop, startPasses}
 use borrow.Author.Needs.{needs}
@@ -8,9 +9,6 @@ use Rattle.rules.specs.Carry.{go}
 use Rattle.flow.specs.Worlds.{world}
 use Rattle.channel.proofs.start_loop.Statement.{statement}
 use Rattle.channel.proofs.start_loop.Tie as tie
-use Rattle.channel.proofs.start_loop.Reads as reads
-use Rattle.channel.proofs.start_loop.Lts as lts
-use Rattle.minor.proofs.dma_minor.Reads as dma-minor-reads
 
 abbrev Inv-loop : tie.InvT-loop
 Inv-loop window₀ base table₀ majors₀ ch before staging₀ journal₀ f₀ left₀ window table majors staging journal f left =

@@ -1,12 +1,10 @@
+-- `dma::byte_known` meets its contract. Assumes nothing.
 use Rattle.dma.proofs.Laws.{write-command, byte-there}
 use Rattle.rules.specs.Calls.{isNone}
 use mathlib.Core.Path.{sym, _∙_}
 use borrow.Author.Needs.{needs}
 use Rattle.dma.proofs.byte_known.Statement.{statement}
 use Rattle.dma.proofs.byte_known.Tie as tie
-use Rattle.dma.proofs.byte_known.Reads as reads
-use Rattle.dma.proofs.byte_known.Lts as lts
-use Rattle.intc.proofs.within.Reads as within-reads
 
 within-requires : tie.Need-within-requires
 within-requires c κs = search needs

@@ -1,3 +1,4 @@
+-- `dma::byte_written` meets its contract. Assumes nothing.
 use Rattle.dma.proofs.Laws.{write-command, byte-idle}
 use Rattle.intc.proofs.ReadLaws.{within-true}
 use Rattle.flow.specs.Worlds.{walked, on}
@@ -8,10 +9,6 @@ use mathlib.Core.Path.{sym, _∙_}
 use borrow.Author.Needs.{needs}
 use Rattle.dma.proofs.byte_written.Statement.{statement}
 use Rattle.dma.proofs.byte_written.Tie as tie
-use Rattle.dma.proofs.byte_written.Reads as reads
-use Rattle.dma.proofs.byte_written.Lts as lts
-use Rattle.dma_commands.proofs.command.Reads as command-reads
-use Rattle.intc.proofs.within.Reads as within-reads
 
 within-requires : tie.Need-within-requires
 within-requires c κs = search needs

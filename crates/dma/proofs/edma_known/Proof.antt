@@ -1,14 +1,10 @@
+-- `dma::edma_known` meets its contract. Assumes nothing.
 use Rattle.dma.proofs.Laws.{write-table, write-none}
 use Rattle.dma_read.proofs.Laws.{in-table}
 use Rattle.rules.specs.Calls.{isNone}
 use borrow.Author.Needs.{needs}
 use Rattle.dma.proofs.edma_known.Statement.{statement}
 use Rattle.dma.proofs.edma_known.Tie as tie
-use Rattle.dma.proofs.edma_known.Reads as reads
-use Rattle.dma.proofs.edma_known.Lts as lts
-use Rattle.dma.proofs.byte_known.Reads as byte-known-reads
-use Rattle.dma.proofs.word_known.Reads as word-known-reads
-use Rattle.intc.proofs.within.Reads as within-reads
 
 within-requires : tie.Need-within-requires
 within-requires c κs = search needs

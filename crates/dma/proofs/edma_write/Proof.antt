@@ -1,3 +1,4 @@
+-- `dma::edma_write` meets its contract. Assumes nothing.
 use Rattle.dma.proofs.Laws.{write-table, write-none}
 use Rattle.dma_read.proofs.Laws.{in-table}
 use Rattle.intc.proofs.ReadLaws.{within-true}
@@ -9,12 +10,6 @@ use mathlib.Core.Path.{sym, _∙_}
 use borrow.Author.Needs.{needs}
 use Rattle.dma.proofs.edma_write.Statement.{statement}
 use Rattle.dma.proofs.edma_write.Tie as tie
-use Rattle.dma.proofs.edma_write.Reads as reads
-use Rattle.dma.proofs.edma_write.Lts as lts
-use Rattle.dma.proofs.byte_written.Reads as byte-written-reads
-use Rattle.dma.proofs.tcd_write.Reads as tcd-write-reads
-use Rattle.dma.proofs.word_written.Reads as word-written-reads
-use Rattle.intc.proofs.within.Reads as within-reads
 
 within-requires : tie.Need-within-requires
 within-requires c κs = search needs

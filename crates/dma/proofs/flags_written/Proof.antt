@@ -1,3 +1,4 @@
+-- `dma::flags_written` meets its contract. Assumes nothing.
 use Rattle.dma.proofs.Laws.{changed-to}
 use Rattle.flow.proofs.DoesLaws.{answers-done}
 use Rattle.rules.specs.Registers.{pick, dmaArms}
@@ -8,9 +9,6 @@ use borrow.Author.Tests.{ne-eqb}
 use borrow.Author.Needs.{needs}
 use Rattle.dma.proofs.flags_written.Statement.{statement}
 use Rattle.dma.proofs.flags_written.Tie as tie
-use Rattle.dma.proofs.flags_written.Reads as reads
-use Rattle.dma.proofs.flags_written.Lts as lts
-use Rattle.words.proofs.without.Reads as without-reads
 
 mul-high : tie.Need-mul-high
 mul-high c = search needs

@@ -1,3 +1,4 @@
+-- `dma::masks_written` meets its contract. Assumes nothing.
 use Rattle.dma.proofs.Laws.{changed-to}
 use Rattle.flow.proofs.DoesLaws.{does-put}
 use Rattle.rules.specs.Registers.{pick, dmaArms}
@@ -8,10 +9,6 @@ use borrow.Author.Tests.{ne-eqb}
 use borrow.Author.Needs.{needs}
 use Rattle.dma.proofs.masks_written.Statement.{statement}
 use Rattle.dma.proofs.masks_written.Tie as tie
-use Rattle.dma.proofs.masks_written.Reads as reads
-use Rattle.dma.proofs.masks_written.Lts as lts
-use Rattle.dma.proofs.flags_written.Reads as flags-written-reads
-use Rattle.intc.proofs.with_bytes_in.Reads as with-bytes-in-reads
 
 with-bytes-in-requires : tie.Need-with-bytes-in-requires
 with-bytes-in-requires c κs = search needs

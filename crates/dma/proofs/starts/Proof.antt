@@ -1,13 +1,10 @@
+-- `dma::starts` meets its contract. Assumes nothing.
 use Rattle.dma.specs.Started.{startsIn}
 use borrow.Author.Tests.{le-ltb, lt-ltb}
 use native.Mathlib.Omega.{arith}
 use borrow.Author.Needs.{needs}
 use Rattle.dma.proofs.starts.Statement.{statement}
 use Rattle.dma.proofs.starts.Tie as tie
-use Rattle.dma.proofs.starts.Reads as reads
-use Rattle.dma.proofs.starts.Lts as lts
-use Rattle.words.proofs.get1.Reads as get1-reads
-use Rattle.words.proofs.has_bit.Reads as has-bit-reads
 
 mul-last : tie.Need-mul-last
 mul-last c = search needs

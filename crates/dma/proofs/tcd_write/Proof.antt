@@ -1,3 +1,4 @@
+-- `dma::tcd_write` meets its contract. Assumes nothing.
 use Rattle.dma.proofs.Laws.{table-wide, table-written}
 use Rattle.dma_read.proofs.Laws.{small}
 use Rattle.rules.proofs.Powers.{one-shl}
@@ -5,13 +6,6 @@ use native.Mathlib.Omega.{arith}
 use borrow.Author.Needs.{needs}
 use Rattle.dma.proofs.tcd_write.Statement.{statement}
 use Rattle.dma.proofs.tcd_write.Tie as tie
-use Rattle.dma.proofs.tcd_write.Reads as reads
-use Rattle.dma.proofs.tcd_write.Lts as lts
-use Rattle.dma.proofs.starts.Reads as starts-reads
-use Rattle.dma_commands.proofs.begun.Reads as begun-reads
-use Rattle.dma_commands.proofs.put_back.Reads as put-back-reads
-use Rattle.dma_commands.proofs.with_kick.Reads as with-kick-reads
-use Rattle.journal.proofs.store_table.Reads as store-table-reads
 
 begun-requires : tie.Need-begun-requires
 begun-requires c κs = search needs

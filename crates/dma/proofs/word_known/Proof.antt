@@ -1,11 +1,10 @@
+-- `dma::word_known` meets its contract. Assumes nothing.
 use Rattle.dma.proofs.Laws.{write-word}
 use Rattle.rules.specs.Registers.{pick, dmaArms}
 use Rattle.rules.specs.Calls.{isNone}
 use borrow.Author.Tests.{ne-eqb}
 use Rattle.dma.proofs.word_known.Statement.{statement}
 use Rattle.dma.proofs.word_known.Tie as tie
-use Rattle.dma.proofs.word_known.Reads as reads
-use Rattle.dma.proofs.word_known.Lts as lts
 
 returns : tie.Need-returns
 unfolding pick dmaArms isNone

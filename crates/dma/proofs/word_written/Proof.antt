@@ -1,3 +1,4 @@
+-- `dma::word_written` meets its contract. Assumes nothing.
 use Rattle.dma.proofs.Laws.{write-word}
 use Rattle.dma_commands.proofs.Laws.{does-on}
 use Rattle.flow.specs.Worlds.{walked, on}
@@ -6,10 +7,6 @@ use Rattle.rules.specs.Calls.{orNothing}
 use borrow.Author.Needs.{needs}
 use Rattle.dma.proofs.word_written.Statement.{statement}
 use Rattle.dma.proofs.word_written.Tie as tie
-use Rattle.dma.proofs.word_written.Reads as reads
-use Rattle.dma.proofs.word_written.Lts as lts
-use Rattle.dma.proofs.masks_written.Reads as masks-written-reads
-use Rattle.dma_commands.proofs.commands.Reads as commands-reads
 
 commands-requires : tie.Need-commands-requires
 commands-requires c κs = search needs

@@ -1,9 +1,8 @@
+-- `dma_commands::begun` meets its contract. Assumes nothing.
 use Rattle.flow.specs.Worlds.{told, walked}
 use mathlib.Core.Path.{refl}
 use Rattle.dma_commands.proofs.begun.Statement.{statement}
 use Rattle.dma_commands.proofs.begun.Tie as tie
-use Rattle.dma_commands.proofs.begun.Reads as reads
-use Rattle.dma_commands.proofs.begun.Lts as lts
 
 returns : tie.Need-returns
 unfolding told walked

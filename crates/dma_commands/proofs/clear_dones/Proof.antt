@@ -1,12 +1,9 @@
+-- `dma_commands::clear_dones` meets its contract. Assumes nothing.
 use Rattle.dma_commands.specs.Reaching.{flagged}
 use Rattle.rules.specs.Registers.{clearDones}
 use borrow.Author.Needs.{needs}
 use Rattle.dma_commands.proofs.clear_dones.Statement.{statement}
 use Rattle.dma_commands.proofs.clear_dones.Tie as tie
-use Rattle.dma_commands.proofs.clear_dones.Reads as reads
-use Rattle.dma_commands.proofs.clear_dones.Lts as lts
-use Rattle.dma_commands.proofs.flag_channels.Reads as flag-channels-reads
-use Rattle.intc.proofs.named.Reads as named-reads
 
 named-requires : tie.Need-named-requires
 named-requires c κs = search needs

@@ -1,14 +1,9 @@
+-- `dma_commands::command` meets its contract. Assumes nothing.
 use Rattle.dma_commands.proofs.Laws.{off-stays, on-from, does-on}
 use Rattle.rules.specs.Registers.{command}
-use native.Mathlib.Omega.{arith}
 use borrow.Author.Needs.{needs}
 use Rattle.dma_commands.proofs.command.Statement.{statement}
 use Rattle.dma_commands.proofs.command.Tie as tie
-use Rattle.dma_commands.proofs.command.Reads as reads
-use Rattle.dma_commands.proofs.command.Lts as lts
-use Rattle.dma_commands.proofs.clear_dones.Reads as clear-dones-reads
-use Rattle.dma_commands.proofs.scalar_command.Reads as scalar-command-reads
-use Rattle.dma_commands.proofs.set_starts.Reads as set-starts-reads
 
 enum-known-w : tie.Need-enum-known-w
 enum-known-w c = search needs

@@ -1,10 +1,10 @@
+-- `dma_commands::commands` meets its contract. Assumes nothing.
 use Rattle.dma_commands.proofs.Laws.{in-row}
+use Rattle.dma_commands.specs.Reaching.{reached}
+use denote.Ref.{now}
 use borrow.Author.Needs.{needs}
 use Rattle.dma_commands.proofs.commands.Statement.{statement}
 use Rattle.dma_commands.proofs.commands.Tie as tie
-use Rattle.dma_commands.proofs.commands.Reads as reads
-use Rattle.dma_commands.proofs.commands.Lts as lts
-use Rattle.dma_commands.proofs.command.Reads as command-reads
 
 command-requires : tie.Need-command-requires
 command-requires c κs = search needs
@@ -32,7 +32,8 @@ same-length c = search needs
 
 returns : tie.Need-returns
 returns c base staging w =
-    in-row base staging _ _ _ (c .before .before .command4 .ensures base staging w) (c .before .before .before .before .before .before .command3 .ensures base staging w) (c .before .before .before .before .before .before .before .before .before .before .command2 .ensures base staging w) (c .before .before .before .before .before .before .before .before .before .before .before .before .before .before .command .ensures base staging w)
+    let a = c .before .before .before .before .before .before .before .before .before .before .before .before .before .before .before .before .before .args in
+    in-row base staging (a .k) (a .v) (reached (a .s) w (now (a .journal))) (c .before .before .before .before .before .before .before .before .before .before .before .before .before .before .command .ensures base staging w) (c .before .before .before .before .before .before .before .before .before .before .command2 .ensures base staging w) (c .before .before .before .before .before .before .command3 .ensures base staging w) (c .before .before .command4 .ensures base staging w)
 
 pub commands-spec : {M : Type 1} → statement M
 commands-spec =

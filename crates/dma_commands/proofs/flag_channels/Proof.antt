@@ -1,12 +1,8 @@
+-- `dma_commands::flag_channels` meets its contract. Assumes nothing.
 use Rattle.dma_commands.proofs.Laws.{through}
 use borrow.Author.Needs.{needs}
 use Rattle.dma_commands.proofs.flag_channels.Statement.{statement}
 use Rattle.dma_commands.proofs.flag_channels.Tie as tie
-use Rattle.dma_commands.proofs.flag_channels.Reads as reads
-use Rattle.dma_commands.proofs.flag_channels.Lts as lts
-use Rattle.dma_commands.proofs.begun.Reads as begun-reads
-use Rattle.dma_commands.proofs.flag_each.Reads as flag-each-reads
-use Rattle.dma_commands.proofs.put_back.Reads as put-back-reads
 
 begun-requires : tie.Need-begun-requires
 begun-requires c κs = search needs

@@ -1,3 +1,4 @@
+-- `dma_commands::flag_each` meets its contract. Assumes nothing.
 use lib.ListN.{length}
 use borrow.Author.Needs.{needs}
 use native.Mathlib.Omega.{arith}
@@ -11,10 +12,6 @@ use mathlib.Core.Path.{_≡_, refl}
 use mathlib.Core.List.{List}
 use Rattle.dma_commands.proofs.flag_each.Statement.{statement}
 use Rattle.dma_commands.proofs.flag_each.Tie as tie
-use Rattle.dma_commands.proofs.flag_each.Reads as reads
-use Rattle.dma_commands.proofs.flag_each.Lts as lts
-use Rattle.dma_commands.proofs.flag_one.Reads as flag-one-reads
-use Rattle.words.proofs.has_bit.Reads as has-bit-reads
 
 abbrev Inv-loop : tie.InvT-loop
 Inv-loop table₀ start m journal₀ t₀ ch₀ table journal t ch =

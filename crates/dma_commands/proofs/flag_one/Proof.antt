@@ -1,3 +1,4 @@
+-- `dma_commands::flag_one` meets its contract. Assumes nothing.
 use Rattle.dma_commands.proofs.Laws.{flag-done}
 use Rattle.flow.proofs.Laws.{passed, taken}
 use borrow.Author.Tests.{not-true, not-false}
@@ -5,11 +6,6 @@ use native.Mathlib.Omega.{arith}
 use borrow.Author.Needs.{needs}
 use Rattle.dma_commands.proofs.flag_one.Statement.{statement}
 use Rattle.dma_commands.proofs.flag_one.Tie as tie
-use Rattle.dma_commands.proofs.flag_one.Reads as reads
-use Rattle.dma_commands.proofs.flag_one.Lts as lts
-use Rattle.dma_commands.proofs.flagged.Reads as flagged-reads
-use Rattle.journal.proofs.store_table.Reads as store-table-reads
-use Rattle.words.proofs.get1.Reads as get1-reads
 
 returns : tie.Need-returns
 returns c base staging d w m = passed base staging _ _ _ (not-true _ (c .if1 .taken))

@@ -1,11 +1,8 @@
+-- `dma_commands::flagged` meets its contract. Assumes nothing.
 use Rattle.dma_commands.specs.Reaching.{flagged}
 use borrow.Author.Needs.{needs}
 use Rattle.dma_commands.proofs.flagged.Statement.{statement}
 use Rattle.dma_commands.proofs.flagged.Tie as tie
-use Rattle.dma_commands.proofs.flagged.Reads as reads
-use Rattle.dma_commands.proofs.flagged.Lts as lts
-use Rattle.words.proofs.gain_bit.Reads as gain-bit-reads
-use Rattle.words.proofs.lose_bit.Reads as lose-bit-reads
 
 gain-bit-requires : tie.Need-gain-bit-requires
 gain-bit-requires c κs = search needs

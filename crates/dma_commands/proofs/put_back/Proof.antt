@@ -1,9 +1,8 @@
+-- `dma_commands::put_back` meets its contract. Assumes nothing.
 use Rattle.flow.specs.Worlds.{told, walked}
 use borrow.Author.Needs.{needs}
 use Rattle.dma_commands.proofs.put_back.Statement.{statement}
 use Rattle.dma_commands.proofs.put_back.Tie as tie
-use Rattle.dma_commands.proofs.put_back.Reads as reads
-use Rattle.dma_commands.proofs.put_back.Lts as lts
 
 enum-known-s : tie.Need-enum-known-s
 enum-known-s c = search needs

@@ -1,3 +1,4 @@
+-- `dma_commands::scalar_command` meets its contract. Assumes nothing.
 use Rattle.dma_commands.proofs.Laws.{lost, gained}
 use Rattle.rules.specs.Registers.{command}
 use Rattle.rules.specs.Fields.{bitsOf}
@@ -7,11 +8,6 @@ use mathlib.Core.Path.{_≡_, refl}
 use borrow.Author.Needs.{needs}
 use Rattle.dma_commands.proofs.scalar_command.Statement.{statement}
 use Rattle.dma_commands.proofs.scalar_command.Tie as tie
-use Rattle.dma_commands.proofs.scalar_command.Reads as reads
-use Rattle.dma_commands.proofs.scalar_command.Lts as lts
-use Rattle.dma_commands.proofs.set_requests.Reads as set-requests-reads
-use Rattle.intc.proofs.named.Reads as named-reads
-use Rattle.words.proofs.without.Reads as without-reads
 
 named-requires : tie.Need-named-requires
 named-requires c κs = search needs

@@ -1,11 +1,8 @@
+-- `dma_commands::set_requests` meets its contract. Assumes nothing.
 use Rattle.dma_commands.proofs.Laws.{requests}
 use borrow.Author.Needs.{needs}
 use Rattle.dma_commands.proofs.set_requests.Statement.{statement}
 use Rattle.dma_commands.proofs.set_requests.Tie as tie
-use Rattle.dma_commands.proofs.set_requests.Reads as reads
-use Rattle.dma_commands.proofs.set_requests.Lts as lts
-use Rattle.controllers.proofs.requesting.Reads as requesting-reads
-use Rattle.intc.proofs.named.Reads as named-reads
 
 named-requires : tie.Need-named-requires
 named-requires c κs = search needs

@@ -1,12 +1,8 @@
+-- `dma_commands::set_starts` meets its contract. Assumes nothing.
 use Rattle.dma_commands.proofs.Laws.{starts}
 use borrow.Author.Needs.{needs}
 use Rattle.dma_commands.proofs.set_starts.Statement.{statement}
 use Rattle.dma_commands.proofs.set_starts.Tie as tie
-use Rattle.dma_commands.proofs.set_starts.Reads as reads
-use Rattle.dma_commands.proofs.set_starts.Lts as lts
-use Rattle.dma_commands.proofs.flag_channels.Reads as flag-channels-reads
-use Rattle.dma_commands.proofs.with_kick.Reads as with-kick-reads
-use Rattle.intc.proofs.named.Reads as named-reads
 
 named-requires : tie.Need-named-requires
 named-requires c κs = search needs

@@ -1,11 +1,10 @@
+-- `dma_commands::with_kick` meets its contract. Assumes nothing.
 use Rattle.dma_commands.proofs.Laws.{off-stays, on-from, does-on, kicks}
 use Rattle.flow.proofs.Laws.{passed, taken}
 use borrow.Author.Tests.{not-true, not-false}
 use borrow.Author.Needs.{needs}
 use Rattle.dma_commands.proofs.with_kick.Statement.{statement}
 use Rattle.dma_commands.proofs.with_kick.Tie as tie
-use Rattle.dma_commands.proofs.with_kick.Reads as reads
-use Rattle.dma_commands.proofs.with_kick.Lts as lts
 
 enum-known-w : tie.Need-enum-known-w
 enum-known-w c = search needs

@@ -1,3 +1,4 @@
+-- `dma_read::edma_read` meets its contract. Assumes nothing.
 use Rattle.dma_read.proofs.Laws.{in-table, read-table, read-no-size}
 use Rattle.intc.proofs.ReadLaws.{within-true}
 use native.Mathlib.Omega.{arith}
@@ -5,12 +6,6 @@ use mathlib.Core.Path.{sym, _∙_}
 use borrow.Author.Needs.{needs}
 use Rattle.dma_read.proofs.edma_read.Statement.{statement}
 use Rattle.dma_read.proofs.edma_read.Tie as tie
-use Rattle.dma_read.proofs.edma_read.Reads as reads
-use Rattle.dma_read.proofs.edma_read.Lts as lts
-use Rattle.dma_read.proofs.read_byte.Reads as read-byte-reads
-use Rattle.dma_read.proofs.read_word.Reads as read-word-reads
-use Rattle.dma_read.proofs.tcd_read.Reads as tcd-read-reads
-use Rattle.intc.proofs.within.Reads as within-reads
 
 within-requires : tie.Need-within-requires
 within-requires c κs = search needs

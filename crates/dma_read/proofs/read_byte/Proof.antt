@@ -1,11 +1,9 @@
+-- `dma_read::read_byte` meets its contract. Assumes nothing.
 use Rattle.dma_read.proofs.Laws.{read-command, read-no-byte}
 use mathlib.Core.Path.{sym, _∙_}
 use borrow.Author.Needs.{needs}
 use Rattle.dma_read.proofs.read_byte.Statement.{statement}
 use Rattle.dma_read.proofs.read_byte.Tie as tie
-use Rattle.dma_read.proofs.read_byte.Reads as reads
-use Rattle.dma_read.proofs.read_byte.Lts as lts
-use Rattle.intc.proofs.within.Reads as within-reads
 
 within-requires : tie.Need-within-requires
 within-requires c κs = search needs

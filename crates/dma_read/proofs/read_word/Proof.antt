@@ -1,13 +1,10 @@
+-- `dma_read::read_word` meets its contract. Assumes nothing.
 use Rattle.dma_read.proofs.Laws.{read-cell}
 use Rattle.rules.specs.Registers.{lookUp, dmaCells}
-use mathlib.Core.Path.{_∙_}
 use borrow.Author.Tests.{ne-eqb}
 use borrow.Author.Needs.{needs}
 use Rattle.dma_read.proofs.read_word.Statement.{statement}
 use Rattle.dma_read.proofs.read_word.Tie as tie
-use Rattle.dma_read.proofs.read_word.Reads as reads
-use Rattle.dma_read.proofs.read_word.Lts as lts
-use Rattle.intc.proofs.bytes_in.Reads as bytes-in-reads
 
 bytes-in-requires : tie.Need-bytes-in-requires
 bytes-in-requires c κs = search needs

@@ -1,13 +1,9 @@
+-- `dma_read::tcd_read` meets its contract. Assumes nothing.
 use Rattle.dma_read.proofs.Laws.{four}
 use native.Mathlib.Omega.{arith}
 use borrow.Author.Needs.{needs}
 use Rattle.dma_read.proofs.tcd_read.Statement.{statement}
 use Rattle.dma_read.proofs.tcd_read.Tie as tie
-use Rattle.dma_read.proofs.tcd_read.Reads as reads
-use Rattle.dma_read.proofs.tcd_read.Lts as lts
-use Rattle.words.proofs.get1.Reads as get1-reads
-use Rattle.words.proofs.get2.Reads as get2-reads
-use Rattle.words.proofs.get4.Reads as get4-reads
 
 get1-requires : tie.Need-get1-requires
 get1-requires c κs = search needs

@@ -1,3 +1,4 @@
+-- `engine::course_of` meets its contract. Assumes nothing.
 use borrow.Author.Needs.{needs}
 use Rattle.engine.proofs.course_of.Statement.{statement}
 use Rattle.engine.proofs.course_of.Tie as tie

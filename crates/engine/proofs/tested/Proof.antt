@@ -1,3 +1,4 @@
+-- `engine::tested` meets its contract. Assumes nothing.
 use Rattle.engine.proofs.Beginning.{window-bad, journal-bad, time-bad, none-bad}
 use borrow.Author.Needs.{needs}
 use Rattle.engine.proofs.tested.Statement.{statement}

@@ -1,3 +1,4 @@
+-- `engine::verdict_of` meets its contract. Assumes nothing.
 use borrow.Author.Needs.{needs}
 use Rattle.engine.proofs.verdict_of.Statement.{statement}
 use Rattle.engine.proofs.verdict_of.Tie as tie

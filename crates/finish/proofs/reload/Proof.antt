@@ -1,7 +1,8 @@
 -- `finish::reload` meets its contract, by ESG. Assumes nothing.
 use mathlib.Core.Path.{sym, _∙_}
 use borrow.Author.Needs.{needs}
-use Rattle.rules.specs.Minor.{reload}
+use Rattle.rules.specs.Minor.{ESG, reload}
+use Rattle.rules.specs.Words.{has}
 use Rattle.flow.proofs.Laws.{picked, left-out}
 use Rattle.finish.proofs.reload.Statement.{statement}
 use Rattle.finish.proofs.reload.Tie as tie
@@ -18,7 +19,8 @@ same-length c = search needs
 returns : tie.Need-returns
 unfolding reload
 returns c staging d m =
-    picked _ staging _ _ _ _ (sym (c .before .before .before .before .before .before .csr-has .ensures) ∙ c .before .before .before .before .before .if1 .taken) (c .before .before .load-next .ensures staging d m)
+    let a = c .before .before .before .before .before .before .before .before .before .args in
+    picked _ staging (has (a .t .csr) ESG) _ _ _ (sym (c .before .before .before .before .before .before .csr-has .ensures) ∙ c .before .before .before .before .before .if1 .taken) (c .before .before .load-next .ensures staging d m)
 
 wind-requires : tie.Need-wind-requires
 wind-requires c κs = search needs

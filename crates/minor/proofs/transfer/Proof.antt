@@ -1,5 +1,4 @@
 -- `minor::transfer` meets its contract, by whether the sizes are equal. Assumes nothing.
-use native.Mathlib.Omega.{arith}
 use borrow.Author.Needs.{needs}
 use Rattle.minor.proofs.Laws.{transfer-equal, transfer-unequal}
 use Rattle.minor.proofs.transfer.Statement.{statement}
@@ -11,17 +10,8 @@ size-of-requires c κs = search needs
 size-of-requires-2 : tie.Need-size-of-requires-2
 size-of-requires-2 c κs = search needs
 
-signed16-requires : tie.Need-signed16-requires
-signed16-requires c κs = search needs
-
-cast-t17 : tie.Need-cast-t17
-cast-t17 c = search needs
-
-signed16-requires-2 : tie.Need-signed16-requires-2
-signed16-requires-2 c κs = search needs
-
-cast-t21 : tie.Need-cast-t21
-cast-t21 c = search needs
+steps-of-requires : tie.Need-steps-of-requires
+steps-of-requires c κs = search needs
 
 whole-sizes-requires : tie.Need-whole-sizes-requires
 whole-sizes-requires c κs = search needs
@@ -37,13 +27,13 @@ same-length-2 c = search needs
 
 returns : tie.Need-returns
 returns c d =
-    let a = c .before .before .before .before .before .before .before .before .before .before .before .before .before .before .before .before .before .before .before .args in
-    rw (← transfer-equal (a .t) (a .n) (c .before .before .before .before .before .before .before .before .before .before .before .before .before .before .size-of .ensures .0) (c .before .before .before .before .before .before .before .before .before .before .before .before .before .size-of2 .ensures .0) (c .before .before .before .before .before .before .before .before .before .before .before .before .signed16 .ensures) (c .before .before .before .before .before .before .before .before .before .before .signed162 .ensures) (c .before .before .before .before .before .before .before .before .whole-sizes .ensures .0) (c .before .before .before .before .before .before .before .if1 .taken))
+    let a = c .before .before .before .before .before .before .before .before .before .before .before .before .before .before .before .before .args in
+    rw (← transfer-equal (a .t) (a .n) (c .before .before .before .before .before .before .before .before .before .before .before .size-of .ensures .0) (c .before .before .before .before .before .before .before .before .before .before .size-of2 .ensures .0) (c .before .before .before .before .before .before .before .before .before .steps-of .ensures .0) (c .before .before .before .before .before .before .before .before .whole-sizes .ensures .0) (c .before .before .before .before .before .before .before .if1 .taken))
     (c .before .before .before .before .move-sizes .ensures _ d)
 
 move-unequal-requires : tie.Need-move-unequal-requires
 move-unequal-requires c κs =
-    (c .before .before .before .before .before .before .before .before .before .before .size-of .ensures .1, c .before .before .before .before .before .before .before .before .before .size-of2 .ensures .1, omega arith, omega arith, c .before .before .before .before .whole-sizes .ensures .1)
+    (c .before .before .before .before .before .before .before .size-of .ensures .1, c .before .before .before .before .before .before .size-of2 .ensures .1, c .before .before .before .before .before .steps-of .ensures .1, c .before .before .before .before .before .steps-of .ensures .2, c .before .before .before .before .whole-sizes .ensures .1)
 
 same-length-3 : tie.Need-same-length-3
 same-length-3 c = search needs
@@ -56,8 +46,8 @@ same-length-5 c = search needs
 
 returns-2 : tie.Need-returns-2
 returns-2 c d =
-    let a = c .before .before .before .before .before .before .before .before .before .before .before .before .before .before .before .before .before .before .before .before .before .before .args in
-    rw (← transfer-unequal (a .t) (a .n) (c .before .before .before .before .before .before .before .before .before .before .before .before .before .before .before .before .before .size-of .ensures .0) (c .before .before .before .before .before .before .before .before .before .before .before .before .before .before .before .before .size-of2 .ensures .0) (c .before .before .before .before .before .before .before .before .before .before .before .before .before .before .before .signed16 .ensures) (c .before .before .before .before .before .before .before .before .before .before .before .before .before .signed162 .ensures) (c .before .before .before .before .before .before .before .before .before .before .before .whole-sizes .ensures .0) (c .before .before .before .before .before .before .before .before .before .before .if1 .left))
+    let a = c .before .before .before .before .before .before .before .before .before .before .before .before .before .before .before .before .before .before .before .args in
+    rw (← transfer-unequal (a .t) (a .n) (c .before .before .before .before .before .before .before .before .before .before .before .before .before .before .size-of .ensures .0) (c .before .before .before .before .before .before .before .before .before .before .before .before .before .size-of2 .ensures .0) (c .before .before .before .before .before .before .before .before .before .before .before .before .steps-of .ensures .0) (c .before .before .before .before .before .before .before .before .before .before .before .whole-sizes .ensures .0) (c .before .before .before .before .before .before .before .before .before .before .if1 .left))
     (c .before .before .before .before .before .before .move-unequal .ensures d)
 
 pub transfer-spec : {M : Type 1} → statement M
@@ -66,10 +56,7 @@ transfer-spec =
     (tie.spec
     size-of-requires
     size-of-requires-2
-    signed16-requires
-    cast-t17
-    signed16-requires-2
-    cast-t21
+    steps-of-requires
     whole-sizes-requires
     move-sizes-requires
     same-length

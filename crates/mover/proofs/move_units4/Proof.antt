@@ -26,17 +26,11 @@ abbrev μ-loop : tie.MeasureT-loop
 loop-holds : tie.Need-loop-holds Inv-loop μ-loop
 loop-holds c = (omega arith, refl, refl, λ staging d. rw sub-zero)
 
-mul-wrapping-add-u32 : tie.Need-mul-wrapping-add-u32 Inv-loop μ-loop
-mul-wrapping-add-u32 c = search needs
+unit-at-requires : tie.Need-unit-at-requires Inv-loop μ-loop
+unit-at-requires c κs = search needs
 
-wrapping-add-u32-requires : tie.Need-wrapping-add-u32-requires Inv-loop μ-loop
-wrapping-add-u32-requires c κs = search needs
-
-mul-wrapping-add-u32-2 : tie.Need-mul-wrapping-add-u32-2 Inv-loop μ-loop
-mul-wrapping-add-u32-2 c = search needs
-
-wrapping-add-u32-requires-2 : tie.Need-wrapping-add-u32-requires-2 Inv-loop μ-loop
-wrapping-add-u32-requires-2 c κs = search needs
+unit-at-requires-2 : tie.Need-unit-at-requires-2 Inv-loop μ-loop
+unit-at-requires-2 c κs = search needs
 
 move-unit4-requires : tie.Need-move-unit4-requires Inv-loop μ-loop
 move-unit4-requires c κs = search needs
@@ -58,8 +52,8 @@ unfolding walked
 returns c =
     let at = c .before .before .before .before .before .before .before .before .before .before .before .before .before in
     let a = at .before .before .before .args in
-    let turn = units-on (a .count) (at .loop .k) 4 (a .from) (a .to) (c .before .before .before .before .before .before .before .before .before .before .before .before .loop-test .taken) (c .before .before .before .before .before .before .before .before .before .before .before .wrapping-add-u32 .ensures) (c .before .before .before .before .before .before .before .before .before .before .wrapping-add-u322 .ensures) in
-    turn-off (a .base) _ (a .at) _ _ (moveUnit 4 (c .before .before .before .before .before .before .before .before .before .before .before .wrapping-add-u32 .result) (c .before .before .before .before .before .before .before .before .before .before .wrapping-add-u322 .result)) _ turn _ _ (at .loop .end) (at .loop .inv .3) _ _ (c .before .before .before .before .before .before .before .move-unit4 .ensures) (c .before .n .given .1)
+    let turn = units-on (a .count) (at .loop .k) 4 (a .from) (a .to) (c .before .before .before .before .before .before .before .before .before .before .before .before .loop-test .taken) (c .before .before .before .before .before .before .before .before .before .before .before .unit-at .ensures) (c .before .before .before .before .before .before .before .before .before .before .unit-at2 .ensures) in
+    turn-off (a .base) _ (a .at) _ _ (moveUnit 4 (c .before .before .before .before .before .before .before .before .before .before .before .unit-at .result) (c .before .before .before .before .before .before .before .before .before .before .unit-at2 .result)) _ turn _ _ (at .loop .end) (at .loop .inv .3) _ _ (c .before .before .before .before .before .before .before .move-unit4 .ensures) (c .before .n .given .1)
 
 add-k : tie.Need-add-k Inv-loop μ-loop
 add-k c = search needs
@@ -71,11 +65,11 @@ loop-again : tie.Need-loop-again Inv-loop μ-loop
 loop-again c =
     let at = c .before .before .before .before .before .before .before .before .before .before .before .before .before in
     let a = at .before .before .before .args in
-    let turn = units-on (a .count) (at .loop .k) 4 (a .from) (a .to) (c .before .before .before .before .before .before .before .before .before .before .before .before .loop-test .taken) (c .before .before .before .before .before .before .before .before .before .before .before .wrapping-add-u32 .ensures) (c .before .before .before .before .before .before .before .before .before .before .wrapping-add-u322 .ensures) in (
+    let turn = units-on (a .count) (at .loop .k) 4 (a .from) (a .to) (c .before .before .before .before .before .before .before .before .before .before .before .before .loop-test .taken) (c .before .before .before .before .before .before .before .before .before .before .before .unit-at .ensures) (c .before .before .before .before .before .before .before .before .before .before .unit-at2 .ensures) in (
       omega arith,
       omega arith,
       omega arith,
-      turn-on (a .base) _ (a .at) _ _ (moveUnit 4 (c .before .before .before .before .before .before .before .before .before .before .before .wrapping-add-u32 .result) (c .before .before .before .before .before .before .before .before .before .before .wrapping-add-u322 .result)) _ turn _ _ (at .loop .end) (at .loop .inv .3) _ _ (c .before .before .before .before .before .before .before .move-unit4 .ensures) (c .before .next .given .1),
+      turn-on (a .base) _ (a .at) _ _ (moveUnit 4 (c .before .before .before .before .before .before .before .before .before .before .before .unit-at .result) (c .before .before .before .before .before .before .before .before .before .before .unit-at2 .result)) _ turn _ _ (at .loop .end) (at .loop .inv .3) _ _ (c .before .before .before .before .before .before .before .move-unit4 .ensures) (c .before .next .given .1),
     )
 
 same-length-3 : tie.Need-same-length-3 Inv-loop μ-loop
@@ -97,10 +91,8 @@ move-units4-spec =
     Inv-loop
     μ-loop
     loop-holds
-    mul-wrapping-add-u32
-    wrapping-add-u32-requires
-    mul-wrapping-add-u32-2
-    wrapping-add-u32-requires-2
+    unit-at-requires
+    unit-at-requires-2
     move-unit4-requires
     enum-known-next
     enum-known-n

@@ -1,5 +1,6 @@
 -- `registers::heard_by` meets its contract. Assumes nothing.
 use Rattle.acting.specs.Ending.{heardBy}
+use mathlib.Core.Path.{refl}
 use borrow.Author.Needs.{needs}
 use Rattle.registers.proofs.heard_by.Statement.{statement}
 use Rattle.registers.proofs.heard_by.Tie as tie
@@ -12,7 +13,7 @@ enum-told-2 c = search needs
 
 returns : tie.Need-returns
 unfolding heardBy
-returns c = rw (c .enum-told .given .1)
+returns c = rw (c .enum-told .given .1) refl
 
 returns-2 : tie.Need-returns-2
 unfolding heardBy

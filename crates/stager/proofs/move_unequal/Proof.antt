@@ -19,8 +19,8 @@ returns c d = unequal-short _ _ d _ _ _ _ _ _ _ _ _ _ _ _ (c .if1 .taken)
 read-sizes-requires : tie.Need-read-sizes-requires
 read-sizes-requires c κs = search needs
 
-enum-known-s : tie.Need-enum-known-s
-enum-known-s c = search needs
+enum-known-r : tie.Need-enum-known-r
+enum-known-r c = search needs
 
 enum-told : tie.Need-enum-told
 enum-told c = search needs
@@ -68,7 +68,7 @@ returns-3 : tie.Need-returns-3
 returns-3 c d =
     let a = c .before .before .before .before .before .before .before .before .before .before .before .before .before .before .before .before .before .before .before .before .before .before .before .args in
     unequal-to (a .base) _ d (a .window .now) (a .journal .now) (a .at) (a .reads) _ _ _ _ (a .ssize) _ (a .from) _ (c .before .before .before .before .before .before .before .before .before .before .before .before .before .before .before .before .before .before .before .if1 .left) _ _
-    (c .before .before .before .before .before .before .before .before .before .before .before .before .before .before .before .before .read-sizes .ensures _ d (a .journal .now) (a .at)) (c .before .before .before .before .before .before .before .before .before .before .before .before .s .given .1) _ _ _ (c .before .before .before .before .before .before .before .write-sizes .ensures _ d) (c .before .d .given .1)
+    (c .before .before .before .before .before .before .before .before .before .before .before .before .before .before .before .before .read-sizes .ensures _ d (a .journal .now) (a .at)) (c .before .before .before .before .before .before .before .before .before .before .before .before .r .given .1) _ _ _ (c .before .before .before .before .before .before .before .write-sizes .ensures _ d) (c .before .d .given .1)
 
 same-length-6 : tie.Need-same-length-6
 same-length-6 c = search needs
@@ -83,7 +83,7 @@ returns-4 : tie.Need-returns-4
 returns-4 c d =
     let a = c .before .before .before .before .before .before .before .before .before .before .before .before .before .before .before .before .before .before .before .before .before .before .before .args in
     unequal-not (a .base) _ d (a .window .now) (a .journal .now) (a .at) (a .reads) _ _ _ _ (a .ssize) _ (a .from) _ (c .before .before .before .before .before .before .before .before .before .before .before .before .before .before .before .before .before .before .before .if1 .left) _ _
-    (c .before .before .before .before .before .before .before .before .before .before .before .before .before .before .before .before .read-sizes .ensures _ d (a .journal .now) (a .at)) (c .before .before .before .before .before .before .before .before .before .before .before .before .s .given .1) _ _ _ (c .before .before .before .before .before .before .before .write-sizes .ensures _ d) (c .before .n .given .1)
+    (c .before .before .before .before .before .before .before .before .before .before .before .before .before .before .before .before .read-sizes .ensures _ d (a .journal .now) (a .at)) (c .before .before .before .before .before .before .before .before .before .before .before .before .r .given .1) _ _ _ (c .before .before .before .before .before .before .before .write-sizes .ensures _ d) (c .before .n .given .1)
 
 pub move-unequal-spec : {M : Type 1} → statement M
 move-unequal-spec =
@@ -93,7 +93,7 @@ move-unequal-spec =
     cast-all
     returns
     read-sizes-requires
-    enum-known-s
+    enum-known-r
     enum-told
     same-length
     same-length-2

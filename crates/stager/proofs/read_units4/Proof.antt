@@ -25,11 +25,8 @@ abbrev μ-loop : tie.MeasureT-loop
 loop-holds : tie.Need-loop-holds Inv-loop μ-loop
 loop-holds c = (omega arith, refl, omega arith, λ staging d j e. rw sub-zero)
 
-mul-wrapping-add-u32 : tie.Need-mul-wrapping-add-u32 Inv-loop μ-loop
-mul-wrapping-add-u32 c = search needs
-
-wrapping-add-u32-requires : tie.Need-wrapping-add-u32-requires Inv-loop μ-loop
-wrapping-add-u32-requires c κs = search needs
+unit-at-requires : tie.Need-unit-at-requires Inv-loop μ-loop
+unit-at-requires c κs = search needs
 
 read-unit4-requires : tie.Need-read-unit4-requires Inv-loop μ-loop
 read-unit4-requires c κs = search needs
@@ -41,7 +38,7 @@ returns : tie.Need-returns Inv-loop μ-loop
 returns c staging d j e =
     let at = c .before .before .before .before .before .before .before in
     let a = at .before .before .before .args in
-    let turn = reads-on (a .count) (at .loop .k) 4 (a .from) (take (at .loop .end) (at .loop .staging)) (c .before .before .before .before .before .before .loop-test .taken) (c .before .before .before .before .before .wrapping-add-u32 .ensures) in
+    let turn = reads-on (a .count) (at .loop .k) 4 (a .from) (take (at .loop .end) (at .loop .staging)) (c .before .before .before .before .before .before .loop-test .taken) (c .before .before .before .before .before .unit-at .ensures) in
     none-read _ _ (read-off (a .base) (a .window .now) _ _ _ turn (at .loop .inv .3) _ (not-true _ (c .if1 .taken)) (c .before .before .before .read-unit4 .ensures) staging d j e)
 
 add-end : tie.Need-add-end Inv-loop μ-loop
@@ -57,7 +54,7 @@ loop-again : tie.Need-loop-again Inv-loop μ-loop
 loop-again c =
     let at = c .before .before .before .before .before .before .before in
     let a = at .before .before .before .args in
-    let turn = reads-on (a .count) (at .loop .k) 4 (a .from) (take (at .loop .end) (at .loop .staging)) (c .before .before .before .before .before .before .loop-test .taken) (c .before .before .before .before .before .wrapping-add-u32 .ensures) in
+    let turn = reads-on (a .count) (at .loop .k) 4 (a .from) (take (at .loop .end) (at .loop .staging)) (c .before .before .before .before .before .before .loop-test .taken) (c .before .before .before .before .before .unit-at .ensures) in
     (omega arith, omega arith, omega arith, read-on (a .base) (a .window .now) _ _ _ turn (at .loop .inv .3) _ (not-false _ (c .if1 .left)) (c .before .before .before .read-unit4 .ensures))
 
 same-length-2 : tie.Need-same-length-2 Inv-loop μ-loop
@@ -77,8 +74,7 @@ read-units4-spec =
     Inv-loop
     μ-loop
     loop-holds
-    mul-wrapping-add-u32
-    wrapping-add-u32-requires
+    unit-at-requires
     read-unit4-requires
     same-length
     returns

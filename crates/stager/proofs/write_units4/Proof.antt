@@ -26,11 +26,8 @@ abbrev μ-loop : tie.MeasureT-loop
 loop-holds : tie.Need-loop-holds Inv-loop μ-loop
 loop-holds c = (omega arith, refl, refl, λ staging d. rw sub-zero)
 
-mul-wrapping-add-u32 : tie.Need-mul-wrapping-add-u32 Inv-loop μ-loop
-mul-wrapping-add-u32 c = search needs
-
-wrapping-add-u32-requires : tie.Need-wrapping-add-u32-requires Inv-loop μ-loop
-wrapping-add-u32-requires c κs = search needs
+unit-at-requires : tie.Need-unit-at-requires Inv-loop μ-loop
+unit-at-requires c κs = search needs
 
 mul-get4 : tie.Need-mul-get4 Inv-loop μ-loop
 mul-get4 c = search needs
@@ -64,7 +61,7 @@ unfolding walked
 returns c =
     let at = c .before .before .before .before .before .before .before .before .before .before .before .before .before in
     let a = at .before .before .before .before .args in
-    let turn = writes-on (a .count) (at .loop .k) 4 (a .to) (a .staging .now) (a .pos) (c .before .before .before .before .before .before .before .before .before .before .before .before .loop-test .taken) (c .before .before .before .before .before .before .before .before .before .before .before .wrapping-add-u32 .ensures) (c .before .before .before .before .before .before .before .before .before .before .get4 .ensures) in
+    let turn = writes-on (a .count) (at .loop .k) 4 (a .to) (a .staging .now) (a .pos) (c .before .before .before .before .before .before .before .before .before .before .before .before .loop-test .taken) (c .before .before .before .before .before .before .before .before .before .before .before .unit-at .ensures) (c .before .before .before .before .before .before .before .before .before .before .get4 .ensures) in
     turn-off (a .base) _ (a .at) _ _ _ _ turn _ _ (at .loop .end) (at .loop .inv .3) _ _ (c .before .before .before .before .before .before .before .store4 .ensures) (c .before .n .given .1)
 
 add-k : tie.Need-add-k Inv-loop μ-loop
@@ -77,7 +74,7 @@ loop-again : tie.Need-loop-again Inv-loop μ-loop
 loop-again c =
     let at = c .before .before .before .before .before .before .before .before .before .before .before .before .before in
     let a = at .before .before .before .before .args in
-    let turn = writes-on (a .count) (at .loop .k) 4 (a .to) (a .staging .now) (a .pos) (c .before .before .before .before .before .before .before .before .before .before .before .before .loop-test .taken) (c .before .before .before .before .before .before .before .before .before .before .before .wrapping-add-u32 .ensures) (c .before .before .before .before .before .before .before .before .before .before .get4 .ensures) in (
+    let turn = writes-on (a .count) (at .loop .k) 4 (a .to) (a .staging .now) (a .pos) (c .before .before .before .before .before .before .before .before .before .before .before .before .loop-test .taken) (c .before .before .before .before .before .before .before .before .before .before .before .unit-at .ensures) (c .before .before .before .before .before .before .before .before .before .before .get4 .ensures) in (
       omega arith,
       omega arith,
       omega arith,
@@ -103,8 +100,7 @@ write-units4-spec =
     Inv-loop
     μ-loop
     loop-holds
-    mul-wrapping-add-u32
-    wrapping-add-u32-requires
+    unit-at-requires
     mul-get4
     cast-get4
     add-get4

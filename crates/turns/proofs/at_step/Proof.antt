@@ -1,8 +1,7 @@
+-- `turns::at_step` meets its contract. Assumes nothing.
 use borrow.Author.Needs.{needs}
 use Rattle.turns.proofs.at_step.Statement.{statement}
 use Rattle.turns.proofs.at_step.Tie as tie
-use Rattle.turns.proofs.at_step.Reads as reads
-use Rattle.turns.proofs.at_step.Lts as lts
 
 enum-known-s : tie.Need-enum-known-s
 enum-known-s c = search needs

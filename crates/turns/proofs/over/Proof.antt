@@ -1,8 +1,7 @@
+-- `turns::over` meets its contract. Assumes nothing.
 use Rattle.turns.proofs.Freeing.{over-free, over-by}
 use Rattle.turns.proofs.over.Statement.{statement}
 use Rattle.turns.proofs.over.Tie as tie
-use Rattle.turns.proofs.over.Reads as reads
-use Rattle.turns.proofs.over.Lts as lts
 
 returns : tie.Need-returns
 returns c = over-free _ _ (c .if1 .taken)

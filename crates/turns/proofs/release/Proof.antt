@@ -1,7 +1,8 @@
+-- `turns::release` meets its contract. Assumes nothing.
 use Rattle.turns.proofs.Freeing.{release-again, release-end}
 use borrow.Author.Needs.{needs}
 use mathlib.Core.List.{List}
-use mathlib.Core.Path.{_≡_, refl, sym}
+use mathlib.Core.Path.{_≡_, refl}
 use Prim.Native.Nat.{ℕ, _-_, _≤_}
 use Rattle.rules.specs.Carry.{go}
 use Rattle.rules.specs.Run.{release}
@@ -10,9 +11,6 @@ use Rattle.rules.specs.declared.Device.{Device}
 use Rattle.flow.specs.Does.{beside}
 use Rattle.turns.proofs.release.Statement.{statement}
 use Rattle.turns.proofs.release.Tie as tie
-use Rattle.turns.proofs.release.Reads as reads
-use Rattle.turns.proofs.release.Lts as lts
-use Rattle.turns.proofs.release_one.Reads as release-one-reads
 
 abbrev Inv-loop : tie.InvT-loop
 Inv-loop time erq busy₀ m₀ ch₀ busy m ch =

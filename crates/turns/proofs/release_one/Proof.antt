@@ -1,13 +1,9 @@
+-- `turns::release_one` meets its contract. Assumes nothing.
 use Rattle.turns.proofs.Freeing.{still-busy, freed-only, freed-too}
 use borrow.Author.Tests.{not-true, not-false}
 use borrow.Author.Needs.{needs}
 use Rattle.turns.proofs.release_one.Statement.{statement}
 use Rattle.turns.proofs.release_one.Tie as tie
-use Rattle.turns.proofs.release_one.Reads as reads
-use Rattle.turns.proofs.release_one.Lts as lts
-use Rattle.turns.proofs.over.Reads as over-reads
-use Rattle.words.proofs.gain_bit.Reads as gain-bit-reads
-use Rattle.words.proofs.has_bit.Reads as has-bit-reads
 
 mul-over : tie.Need-mul-over
 mul-over c = search needs

@@ -1,3 +1,4 @@
+-- `turns::run_dma_inner` meets its contract. Assumes nothing.
 use Rattle.turns.proofs.Turning.{turns-stop, turns-refused, turns-again, turns-out}
 use borrow.Author.Needs.{needs}
 use lib.ListN.{length}
@@ -8,10 +9,6 @@ use Rattle.rules.specs.declared.Device.{Device}
 use Rattle.turns.specs.Turns.{turning}
 use Rattle.turns.proofs.run_dma_inner.Statement.{statement}
 use Rattle.turns.proofs.run_dma_inner.Tie as tie
-use Rattle.turns.proofs.run_dma_inner.Reads as reads
-use Rattle.turns.proofs.run_dma_inner.Lts as lts
-use Rattle.turns.proofs.turn.Reads as turn-reads
-use Rattle.words.proofs.lowest_bit.Reads as lowest-bit-reads
 
 abbrev Inv-loop : tie.InvT-loop
 Inv-loop standing time pace window₀ base table₀ majors₀ pending₀ busy₀ staging₀ journal₀ s₀ left₀ window table majors pending busy staging journal s left =
@@ -45,8 +42,8 @@ returns c =
     let l = c .before .before .before .loop in
     turns-stop (a .base) _ (a .standing) (a .time) (a .pace) _ (l .s) _ _ _ _ _ _ _ (l .inv .3) (c .before .before .loop-test .taken) (c .if1 .taken)
 
-lowest-bit-requires : tie.Need-lowest-bit-requires Inv-loop μ-loop
-lowest-bit-requires c κs = search needs
+next-channel-requires : tie.Need-next-channel-requires Inv-loop μ-loop
+next-channel-requires c κs = search needs
 
 turn-requires : tie.Need-turn-requires Inv-loop μ-loop
 turn-requires c κs = search needs
@@ -70,7 +67,7 @@ returns-2 : tie.Need-returns-2 Inv-loop μ-loop
 returns-2 c =
     let a = c .before .before .before .before .before .before .before .before .before .before .before .before .before .before .before .before .before .before .before .before .before .before .before .before .args in
     let l = c .before .before .before .before .before .before .before .before .before .before .before .before .before .before .before .before .before .before .before .before .loop in
-    turns-refused (a .base) _ (a .standing) (a .time) (a .pace) _ (l .s) _ _ _ _ _ _ _ (l .inv .3) (c .before .before .before .before .before .before .before .before .before .before .before .before .before .before .before .before .before .before .before .loop-test .taken) (c .before .before .before .before .before .before .before .before .before .before .before .before .before .before .before .before .before .if1 .left) _ (c .before .before .before .before .before .before .before .before .before .before .before .before .before .before .before .before .lowest-bit .ensures .0) _ (l .inv .1) _ _ _ _ _ _ _ (c .before .before .before .before .before .before .before .before .turn .ensures) (c .enum-told .given .1)
+    turns-refused (a .base) _ (a .standing) (a .time) (a .pace) _ (l .s) _ _ _ _ _ _ _ (l .inv .3) (c .before .before .before .before .before .before .before .before .before .before .before .before .before .before .before .before .before .before .before .loop-test .taken) (c .before .before .before .before .before .before .before .before .before .before .before .before .before .before .before .before .before .if1 .left) _ (c .before .before .before .before .before .before .before .before .before .before .before .before .before .before .before .before .next-channel .ensures .0) _ (l .inv .1) _ _ _ _ _ _ _ (c .before .before .before .before .before .before .before .before .turn .ensures) (c .enum-told .given .1)
 
 sub-left : tie.Need-sub-left Inv-loop μ-loop
 sub-left c = search needs
@@ -82,7 +79,7 @@ loop-again : tie.Need-loop-again Inv-loop μ-loop
 loop-again c =
     let a = c .before .before .before .before .before .before .before .before .before .before .before .before .before .before .before .before .before .before .before .before .before .before .before .before .before .args in
     let l = c .before .before .before .before .before .before .before .before .before .before .before .before .before .before .before .before .before .before .before .before .before .loop in
-    (search needs, search needs, search needs, turns-again (a .base) _ (a .standing) (a .time) (a .pace) _ (l .s) _ _ _ _ _ _ _ (l .inv .3) (c .before .before .before .before .before .before .before .before .before .before .before .before .before .before .before .before .before .before .before .before .loop-test .taken) (c .before .before .before .before .before .before .before .before .before .before .before .before .before .before .before .before .before .before .if1 .left) _ (c .before .before .before .before .before .before .before .before .before .before .before .before .before .before .before .before .before .lowest-bit .ensures .0) _ (l .inv .1) _ _ _ _ _ _ _ (c .before .before .before .before .before .before .before .before .before .turn .ensures) _ (c .before .r .given .1))
+    (search needs, search needs, search needs, turns-again (a .base) _ (a .standing) (a .time) (a .pace) _ (l .s) _ _ _ _ _ _ _ (l .inv .3) (c .before .before .before .before .before .before .before .before .before .before .before .before .before .before .before .before .before .before .before .before .loop-test .taken) (c .before .before .before .before .before .before .before .before .before .before .before .before .before .before .before .before .before .before .if1 .left) _ (c .before .before .before .before .before .before .before .before .before .before .before .before .before .before .before .before .before .next-channel .ensures .0) _ (l .inv .1) _ _ _ _ _ _ _ (c .before .before .before .before .before .before .before .before .before .turn .ensures) _ (c .before .r .given .1))
 
 same-length-7 : tie.Need-same-length-7 Inv-loop μ-loop
 same-length-7 c = search needs
@@ -110,7 +107,7 @@ run-dma-inner-spec =
     same-length-2
     same-length-3
     returns
-    lowest-bit-requires
+    next-channel-requires
     turn-requires
     enum-known-r
     enum-told

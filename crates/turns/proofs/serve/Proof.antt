@@ -1,18 +1,10 @@
+-- `turns::serve` meets its contract. Assumes nothing.
 use mathlib.Core.Path.{refl, sym, _∙_}
 use Rattle.turns.proofs.Turning.{serve-started, serve-none, serve-lined, serve-asked}
 use borrow.Author.Tests.{not-true, not-false}
 use borrow.Author.Needs.{needs}
 use Rattle.turns.proofs.serve.Statement.{statement}
 use Rattle.turns.proofs.serve.Tie as tie
-use Rattle.turns.proofs.serve.Reads as reads
-use Rattle.turns.proofs.serve.Lts as lts
-use Rattle.channel.proofs.csr_of.Reads as csr-of-reads
-use Rattle.channel.proofs.offered.Reads as offered-reads
-use Rattle.channel.proofs.request_loop.Reads as request-loop-reads
-use Rattle.channel.proofs.start_loop.Reads as start-loop-reads
-use Rattle.turns.proofs.at_step.Reads as at-step-reads
-use Rattle.turns.proofs.serve_line.Reads as serve-line-reads
-use Rattle.words.proofs.has_bit.Reads as has-bit-reads
 
 csr-of-requires : tie.Need-csr-of-requires
 csr-of-requires c κs = search needs

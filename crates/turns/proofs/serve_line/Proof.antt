@@ -1,13 +1,10 @@
+-- `turns::serve_line` meets its contract. Assumes nothing.
 use mathlib.Core.Path.{refl}
 use Rattle.turns.proofs.Turning.{sum-below, until-fits, line-broken, line-served}
 use native.Mathlib.Omega.{arith}
 use borrow.Author.Needs.{needs}
 use Rattle.turns.proofs.serve_line.Statement.{statement}
 use Rattle.turns.proofs.serve_line.Tie as tie
-use Rattle.turns.proofs.serve_line.Reads as reads
-use Rattle.turns.proofs.serve_line.Lts as lts
-use Rattle.channel.proofs.line_loop.Reads as line-loop-reads
-use Rattle.turns.proofs.earlier.Reads as earlier-reads
 
 line-loop-requires : tie.Need-line-loop-requires
 line-loop-requires c κs = search needs

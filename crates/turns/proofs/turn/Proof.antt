@@ -1,12 +1,8 @@
+-- `turns::turn` meets its contract. Assumes nothing.
 use Rattle.turns.proofs.Turning.{turn-deferred, turn-served}
 use borrow.Author.Needs.{needs}
 use Rattle.turns.proofs.turn.Statement.{statement}
 use Rattle.turns.proofs.turn.Tie as tie
-use Rattle.turns.proofs.turn.Reads as reads
-use Rattle.turns.proofs.turn.Lts as lts
-use Rattle.turns.proofs.serve.Reads as serve-reads
-use Rattle.words.proofs.gain_bit.Reads as gain-bit-reads
-use Rattle.words.proofs.lose_bit.Reads as lose-bit-reads
 
 lose-bit-requires : tie.Need-lose-bit-requires
 lose-bit-requires c κs = search needs

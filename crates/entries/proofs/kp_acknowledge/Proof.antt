@@ -1,0 +1,80 @@
+-- `entries::kp_acknowledge` meets its contract. Assumes nothing.
+use Rattle.entries.proofs.Laws.{no-entry, heard-entry}
+use Rattle.rules.specs.Calls.{after, ack}
+use Prim.Native.Nat.{_%_, _^_}
+use Rattle.image.proofs.Rows.{image-long}
+use denote.Ref.{now}
+use borrow.Author.Tests.{not-true, not-false}
+use mathlib.Core.List.{[]}
+use mathlib.Core.Path.{sym, _∙_}
+use native.Mathlib.Omega.{arith}
+use borrow.Author.Needs.{needs}
+use Rattle.entries.proofs.kp_acknowledge.Statement.{statement}
+use Rattle.entries.proofs.kp_acknowledge.Tie as tie
+
+is-image-requires : tie.Need-is-image-requires
+is-image-requires c κs = search needs
+
+packed-requires : tie.Need-packed-requires
+packed-requires c κs = search needs
+
+same-length : tie.Need-same-length
+same-length c = search needs
+
+returns : tie.Need-returns
+returns c = no-entry _ _ _ _ _ _ (sym (c .before .before .is-image .ensures) ∙ not-true _ (c .before .if1 .taken)) (c .packed .ensures)
+
+get-device-requires : tie.Need-get-device-requires
+get-device-requires c κs = image-long _ (sym (c .before .before .is-image .ensures) ∙ not-false _ (c .before .if1 .left))
+
+cast-acknowledge : tie.Need-cast-acknowledge
+cast-acknowledge c = search needs
+
+acknowledge-requires : tie.Need-acknowledge-requires
+acknowledge-requires c κs = search needs
+
+put-device-requires : tie.Need-put-device-requires
+put-device-requires c κs = omega (arith, image-long (now (c .before .before .before .before .before .before .before .before .before .before .before .before .args .image)) (sym (c .before .before .before .before .before .before .before .before .is-image .ensures) ∙ not-false _ (c .before .before .before .before .before .before .before .if1 .left)))
+
+verdict-number-requires : tie.Need-verdict-number-requires
+verdict-number-requires c κs = search needs
+
+level-of-requires : tie.Need-level-of-requires
+level-of-requires c κs = search needs
+
+vector-of-requires : tie.Need-vector-of-requires
+vector-of-requires c κs = search needs
+
+packed-requires-2 : tie.Need-packed-requires-2
+packed-requires-2 c κs = search needs
+
+same-length-2 : tie.Need-same-length-2
+same-length-2 c = search needs
+
+same-length-3 : tie.Need-same-length-3
+same-length-3 c = search needs
+
+returns-2 : tie.Need-returns-2
+returns-2 c =
+    let a = c .before .before .before .before .before .before .before .before .before .before .before .before .before .before .before .before .before .before .before .args in
+    heard-entry (now (a .image)) [] [] (now (a .journal)) (a .used) (λ d. after (ack (a .ipl % 2 ^ 8)) 0 d [] [] (now (a .journal)) (a .used)) (sym (c .before .before .before .before .before .before .before .before .before .before .before .before .before .before .before .is-image .ensures) ∙ not-false _ (c .before .before .before .before .before .before .before .before .before .before .before .before .before .before .if1 .left)) (c .before .before .before .before .before .before .before .before .before .before .before .before .get-device .ensures) (c .before .before .before .before .before .before .before .before .before .before .acknowledge .result) (c .before .before .before .before .before .before .before .before .before .before .acknowledge .ensures 0 [] []) (c .before .before .before .verdict-number .ensures) (c .before .before .level-of .ensures) (c .before .vector-of .ensures) (c .packed2 .ensures) (c .before .before .before .before .before .before .put-device .ensures)
+
+pub kp-acknowledge-spec : {M : Type 1} → statement M
+kp-acknowledge-spec =
+    tie.close
+    (tie.spec
+    is-image-requires
+    packed-requires
+    same-length
+    returns
+    get-device-requires
+    cast-acknowledge
+    acknowledge-requires
+    put-device-requires
+    verdict-number-requires
+    level-of-requires
+    vector-of-requires
+    packed-requires-2
+    same-length-2
+    same-length-3
+    returns-2)

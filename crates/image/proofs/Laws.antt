@@ -1,0 +1,165 @@
+-- The laws that the proofs of this crate cite: numbers laid down and read, place by place. Assumes nothing.
+use mathlib.Core.Bool.{Bool, true, false, cond, false≢true}
+use mathlib.Core.List.{List, [], _∷_, _++_, append-nil}
+use mathlib.Core.Path.{_≡_, refl, sym, ap, _∙_}
+use Prim.Native.Nat.{ℕ, zero, suc, _+_, _-_, _*_, _%_, _^_, _≤_, _<_}
+use native.Mathlib.Nat.{mod-eq-of-lt, add-zero, add-suc, sub-zero, sub-self}
+use native.Mathlib.Numerals.{add-one}
+use native.Mathlib.Omega.{arith}
+use borrow.Author.Tests.{eqb-true, eq-eqb, ne-eqb}
+use lib.Dec.{eqb}
+use lib.ListN.{length, getD, set, drop, length-append, drop-of-length-le}
+use lib.Seq.{drop-cons, drop-length}
+use Rattle.rules.specs.Bytes.{bytes, number, part, splice}
+use Rattle.rules.proofs.BytesLaws.{splice-append, splice-comm, splice-nil, length-part, length-bytes}
+use Rattle.rules.proofs.Cut.{splice-cut}
+use Rattle.image.specs.Image.{laid, flagged, numberIn, numbersIn, alike}
+
+-- ---- laying down
+
+pub length-laid : (vs : List ℕ) → length (laid vs) ≡ 8 * length vs
+unfolding laid
+length-laid [] = refl
+length-laid (v ∷ vs) =
+    let e : length (bytes 8 v ++ laid vs) ≡ length (bytes 8 v) + length (laid vs) = length-append (bytes 8 v) (laid vs) in
+    omega (arith, e, length-bytes 8 v, length-laid vs)
+
+pub laid-none : (x : List ℕ) (from : ℕ) (v : List ℕ) → x ≡ splice x (2064 + 8 * (from + length v)) (laid (drop (length v) v))
+unfolding laid
+laid-none x from v = rw (drop-length v) (sym (splice-nil x (2064 + 8 * (from + length v))))
+
+-- one more, before those that are there
+pub laid-turn : (x : List ℕ) (from : ℕ) (v : List ℕ) (l k u : ℕ) (y z : List ℕ) → suc k ≡ l → l ≤ length v
+    → y ≡ splice x (2064 + 8 * (from + l)) (laid (drop l v)) → u ≡ getD v k 0
+    → z ≡ splice y (2064 + 8 * (from + k)) (bytes 8 u)
+    → z ≡ splice x (2064 + 8 * (from + k)) (laid (drop k v))
+laid-turn x from v l k u y z e b p r q =
+    let here : splice x (2064 + 8 * (from + l)) (laid (drop l v)) ≡ splice x (2064 + 8 * (from + suc k)) (laid (drop (suc k) v)) = ap (λ n. splice x (2064 + 8 * (from + n)) (laid (drop n v))) (sym e) in
+    let next : 2064 + 8 * (from + suc k) ≡ 2064 + 8 * (from + k) + length (bytes 8 (getD v k 0)) = omega (arith, length-bytes 8 (getD v k 0)) in
+    let more : splice x (2064 + 8 * (from + k)) (bytes 8 (getD v k 0) ++ laid (drop (suc k) v)) ≡ splice x (2064 + 8 * (from + k)) (laid (drop k v)) = rw (drop-cons v k 0 (omega (arith, e))) (unfold laid in refl) in
+    q
+    ∙ ap (λ n. splice y (2064 + 8 * (from + k)) (bytes 8 n)) r
+    ∙ ap (λ m. splice m (2064 + 8 * (from + k)) (bytes 8 (getD v k 0))) (p ∙ here ∙ ap (λ n. splice x n (laid (drop (suc k) v))) next)
+    ∙ sym (splice-append x (2064 + 8 * (from + k)) (bytes 8 (getD v k 0)) (laid (drop (suc k) v)))
+    ∙ more
+
+pub laid-all : (x : List ℕ) (from : ℕ) (v : List ℕ) (left : ℕ) (y : List ℕ) → left ≡ 0
+    → y ≡ splice x (2064 + 8 * (from + left)) (laid (drop left v)) → y ≡ splice x (2064 + 8 * from) (laid v)
+laid-all x from v left y e p = p ∙ ap (λ n. splice x (2064 + 8 * (from + n)) (laid (drop n v))) e ∙ ap (λ n. splice x (2064 + 8 * n) (laid v)) (add-zero from)
+
+-- a list laid over the first bytes
+pub over-none : (x t : List ℕ) → x ≡ splice x (length t) (drop (length t) t)
+over-none x t = rw (drop-length t) (sym (splice-nil x (length t)))
+
+pub over-turn : (x t : List ℕ) (l k : ℕ) (y : List ℕ) → suc k ≡ l → l ≤ length t
+    → y ≡ splice x l (drop l t) → set y k (getD t k 0) ≡ splice x k (drop k t)
+over-turn x t l k y e b p =
+    let here : splice x l (drop l t) ≡ splice x (suc k) (drop (suc k) t) = ap (λ n. splice x n (drop n t)) (sym e) in
+    let more : set (splice x (suc k) (drop (suc k) t)) k (getD t k 0) ≡ splice x k (drop k t) = rw (drop-cons t k 0 (omega (arith, e))) (unfold splice in refl) in
+    ap (λ m. set m k (getD t k 0)) (p ∙ here) ∙ more
+
+pub over-all : (x t : List ℕ) (left : ℕ) (y : List ℕ) → left ≡ 0 → y ≡ splice x left (drop left t) → y ≡ splice x 0 t
+over-all x t left y e p = p ∙ ap (λ n. splice x n (drop n t)) e
+
+-- one list behind the other
+pub splice-next : (x : List ℕ) (at : ℕ) (ys zs : List ℕ) → splice (splice x at ys) (at + length ys) zs ≡ splice x at (ys ++ zs)
+splice-next x at ys zs = splice-comm x at ys (at + length ys) zs (omega arith) ∙ sym (splice-append x at ys zs)
+
+-- the setting
+flag-laid : (b : Bool) → bytes 8 (cond b 0x0100000000000000 0) ++ bytes 8 0 ≡ flagged b
+unfolding bytes flagged
+flag-laid true = refl
+flag-laid false = refl
+
+pub flag-put : (x y z : List ℕ) (b : Bool) (f : ℕ) → f ≡ cond b 0x0100000000000000 0 → y ≡ splice x 2048 (bytes 8 f) → z ≡ splice y 2056 (bytes 8 0) → z ≡ splice x 2048 (flagged b)
+flag-put x y z b f e p q =
+    let next : 2048 + length (bytes 8 f) ≡ 2056 = omega (arith, length-bytes 8 f) in
+    q ∙ ap (λ l. splice l 2056 (bytes 8 0)) p ∙ ap (λ n. splice (splice x 2048 (bytes 8 f)) n (bytes 8 0)) (sym next) ∙ splice-next x 2048 (bytes 8 f) (bytes 8 0)
+    ∙ ap (splice x 2048) (ap (λ n. bytes 8 n ++ bytes 8 0) e ∙ flag-laid b)
+
+-- ---- reading
+
+pub number-wide : (b : List ℕ) (n r : ℕ) → r ≡ number (part b (2064 + 8 * n) 8) → r < 2 ^ 64 → r ≡ numberIn 64 b n
+unfolding numberIn
+number-wide b n r e h = sym (mod-eq-of-lt h) ∙ ap (λ m. m % 2 ^ 64) e
+
+pub length-numbers : (bits : ℕ) (b : List ℕ) (n k : ℕ) → length (numbersIn bits b n k) ≡ k
+unfolding numbersIn
+length-numbers bits b n zero = refl
+length-numbers bits b n (suc k) = ap suc (length-numbers bits b (suc n) k)
+
+pub splice-all : (x y : List ℕ) → length y ≡ length x → splice x 0 y ≡ y
+splice-all x y e =
+    let none : drop (0 + length y) x ≡ [] = drop-of-length-le x {i = 0 + length y} (omega (arith, e)) in
+    splice-cut x 0 y (omega (arith, e)) ∙ ap (λ l. y ++ l) none ∙ append-nil y
+
+module _ (bits : ℕ) (b x : List ℕ) (from : ℕ) where
+  pub numbers-none : x ≡ splice x (length x) (numbersIn bits b (from + length x) (length x - length x))
+  unfolding numbersIn
+  numbers-none = rw (sub-self (length x)) (sym (splice-nil x (length x)))
+
+  pub numbers-turn : (l k v : ℕ) (y : List ℕ) → suc k ≡ l → l ≤ length x
+      → y ≡ splice x l (numbersIn bits b (from + l) (length x - l)) → v ≡ numberIn bits b (from + k)
+      → set y k v ≡ splice x k (numbersIn bits b (from + k) (length x - k))
+  numbers-turn l k v y e h p q =
+      let here : splice x l (numbersIn bits b (from + l) (length x - l)) ≡ splice x (suc k) (numbersIn bits b (suc (from + k)) (length x - suc k)) = rw (← e, add-suc from k) refl in
+      let more : suc (length x - suc k) ≡ length x - k = omega (arith, e) in
+      rw (p ∙ here, q, ← more) (unfold numbersIn splice in refl)
+
+  pub numbers-all : (left : ℕ) (y : List ℕ) → left ≡ 0
+      → y ≡ splice x left (numbersIn bits b (from + left) (length x - left)) → y ≡ numbersIn bits b from (length x)
+  numbers-all left y e p =
+      p ∙ ap (λ n. splice x n (numbersIn bits b (from + n) (length x - n))) e ∙ rw (add-zero from, sub-zero (length x)) (splice-all x (numbersIn bits b from (length x)) (length-numbers bits b from (length x)))
+
+-- the first bytes read
+pub part-none : (b x : List ℕ) → x ≡ splice x (length x) (part b (length x) (length x - length x))
+unfolding part
+part-none b x = rw (sub-self (length x)) (sym (splice-nil x (length x)))
+
+pub part-turn : (b x : List ℕ) (l k : ℕ) (y : List ℕ) → suc k ≡ l → l ≤ length x
+    → y ≡ splice x l (part b l (length x - l)) → set y k (getD b k 0) ≡ splice x k (part b k (length x - k))
+part-turn b x l k y e h p =
+    let here : splice x l (part b l (length x - l)) ≡ splice x (suc k) (part b (suc k) (length x - suc k)) = ap (λ n. splice x n (part b n (length x - n))) (sym e) in
+    let more : suc (length x - suc k) ≡ length x - k = omega (arith, e) in
+    rw (p ∙ here, ← more) (unfold part splice in refl)
+
+pub part-all : (b x : List ℕ) (left : ℕ) (y : List ℕ) → left ≡ 0 → y ≡ splice x left (part b left (length x - left)) → y ≡ part b 0 (length x)
+part-all b x left y e p =
+    p ∙ ap (λ n. splice x n (part b n (length x - n))) e ∙ rw (sub-zero (length x)) (splice-all x (part b 0 (length x)) (length-part b 0 (length x)))
+
+-- ---- byte by byte
+
+module _ (a b : List ℕ) (i : ℕ) (w : Bool) (left : alike (drop i a) (drop i b) ≡ w) where
+  pub alike-turn : i < length a → length a ≡ length b → getD a i 0 ≡ getD b i 0 → alike (drop (i + 1) a) (drop (i + 1) b) ≡ w
+  unfolding alike
+  alike-turn h l e = rw (add-one i) (sym (rw (drop-cons a i 0 h, drop-cons b i 0 (omega (arith, l)), eq-eqb (getD a i 0) (getD b i 0) e) refl) ∙ left)
+
+  pub alike-not : i < length a → length a ≡ length b → (getD a i 0 ≡ getD b i 0 → ⊥) → false ≡ w
+  unfolding alike
+  alike-not h l e = sym (rw (drop-cons a i 0 h, drop-cons b i 0 (omega (arith, l)), ne-eqb (getD a i 0) (getD b i 0) e) refl) ∙ left
+
+  pub alike-end : length a ≤ i → length a ≡ length b → true ≡ w
+  unfolding alike
+  alike-end h l = sym (rw (drop-of-length-le a h, drop-of-length-le b {i = i} (omega (arith, l))) refl) ∙ left
+
+pub alike-lengths : (a b : List ℕ) → (length a ≡ length b → ⊥) → alike a b ≡ false
+unfolding alike
+alike-lengths [] [] h = absurd (h refl)
+alike-lengths [] (y ∷ b) h = refl
+alike-lengths (x ∷ a) [] h = refl
+alike-lengths (x ∷ a) (y ∷ b) h = rw (alike-lengths a b (λ e. h (ap suc e))) (either (eqb x y))
+  where
+    either : (t : Bool) → cond t false false ≡ false
+    either true = refl
+    either false = refl
+
+alike-both : (x y : ℕ) (a b : List ℕ) (t : Bool) → eqb x y ≡ t → (alike a b ≡ true → a ≡ b) → cond t (alike a b) false ≡ true → x ∷ a ≡ y ∷ b
+alike-both x y a b true e f g = rw (eqb-true x y e, f g) refl
+alike-both x y a b false e f g = absurd (false≢true g)
+
+pub alike-same : (a b : List ℕ) → alike a b ≡ true → a ≡ b
+unfolding alike
+alike-same [] [] h = refl
+alike-same [] (y ∷ b) h = absurd (false≢true h)
+alike-same (x ∷ a) [] h = absurd (false≢true h)
+alike-same (x ∷ a) (y ∷ b) h = alike-both x y a b (eqb x y) refl (alike-same a b) h

@@ -1,0 +1,194 @@
+-- There and back: the device that stands in a device's image is that device, so its image is one, and no two devices have the same. Assumes nothing.
+use mathlib.Core.Bool.{Bool, true, false, cond}
+use mathlib.Core.List.{List, [], _∷_, _++_, append-assoc}
+use mathlib.Core.Path.{_≡_, refl, sym, ap, _∙_}
+use Prim.Native.Nat.{ℕ, zero, suc, _+_, _*_, _%_, _^_, _<_}
+use native.Mathlib.Nat.{mod-eq-of-lt, zero-add, add-zero, add-suc, suc-add, not-suc-le-zero, le-of-suc-le-suc, suc-inj}
+use native.Mathlib.Omega.{arith}
+use borrow.Author.Tests.{eq-eqb, leb-true}
+use lib.Dec.{eqb, lit<}
+use lib.ListN.{length, getD, replicate, length-append, List·getD-append}
+use lib.Seq.{getD-append-add, getD-at}
+use Rattle.rules.specs.Act.{Field, CR, ERQ, EEI, INT, ERR, KICK, DEFERRED, DEADLINE, LEVEL, STANDING, MASKS, FORCED, LINES, CONFIG, BUSY, MAJORS, PENDING, SOURCE, TAKEN}
+use Rattle.rules.specs.Bytes.{bytes, number, part}
+use Rattle.rules.specs.Fields.{fieldsOf, partsOf, numberOf, bitsOf, holds, controller}
+use Rattle.rules.specs.declared.Controller.{Controller}
+use Rattle.rules.specs.declared.Device.{Device}
+use Rattle.rules.proofs.BytesLaws.{length-bytes, value-of-bytes}
+use Rattle.rules.proofs.FieldLaws.{sizes, Sound, sized, spot, Real, holds-fits, holds-number, in-three}
+use Rattle.rules.proofs.Powers.{low-low}
+use Rattle.rules.proofs.Typed.{Typed, sound, table-size}
+use Rattle.device.proofs.Laws.{some-to-64}
+use Rattle.image.specs.Image.{laid, flagged, imageOf, numberIn, numbersIn, controllerIn, deviceIn, alike, isImage}
+use Rattle.image.proofs.Rows.{device-got, length-joined, total, length-flagged}
+
+-- ---- parts of a list in two
+
+part-behind : (p q : List ℕ) (i k : ℕ) → part (p ++ q) (length p + i) k ≡ part q i k
+unfolding part
+part-behind p q i zero = refl
+part-behind p q i (suc k) =
+    rw (getD-append-add p q i 0, ← add-suc (length p) i) (ap (λ l. getD q i 0 ∷ l) (part-behind p q (suc i) k))
+
+part-first : (p q : List ℕ) → part (p ++ q) 0 (length p) ≡ p
+unfolding part
+part-first [] q = refl
+part-first (x ∷ p) q = ap (λ l. x ∷ l) (rw (zero-add 1) (part-behind (x ∷ []) (p ++ q) 0 (length p)) ∙ part-first p q)
+
+part-laid : (vs : List ℕ) (n : ℕ) → n < length vs → part (laid vs) (8 * n) 8 ≡ bytes 8 (getD vs n 0)
+unfolding laid
+part-laid [] n h = absurd (not-suc-le-zero h)
+part-laid (v ∷ vs) zero h =
+    let e : part (bytes 8 v ++ laid vs) 0 (length (bytes 8 v)) ≡ bytes 8 v = part-first (bytes 8 v) (laid vs) in
+    rw (length-bytes 8 v) at e
+part-laid (v ∷ vs) (suc n) h =
+    let here : 8 * suc n ≡ length (bytes 8 v) + 8 * n = omega (arith, length-bytes 8 v) in
+    ap (λ m. part (bytes 8 v ++ laid vs) m 8) here ∙ part-behind (bytes 8 v) (laid vs) (8 * n) 8 ∙ part-laid vs n (le-of-suc-le-suc h)
+
+-- ---- a field read back
+
+module _ (d : Device) (s : Sound d) (t : length (d .table) ≡ 2048) where
+  front : length (d .table ++ flagged (d .«ignore_masks»)) ≡ 2064
+  front = length-append (d .table) (flagged (d .«ignore_masks»)) ∙ rw (t, length-flagged (d .«ignore_masks»)) refl
+
+  fields-long : length (fieldsOf d) ≡ 768
+  unfolding total fieldsOf
+  fields-long = length-joined sizes (partsOf d) (sized d s)
+
+  number-at : (n : ℕ) → n < 768 → number (part (imageOf d) (2064 + 8 * n) 8) ≡ getD (fieldsOf d) n 0 % 2 ^ 64
+  unfolding imageOf
+  number-at n h =
+      let p = d .table ++ flagged (d .«ignore_masks») in
+      let vs = fieldsOf d ++ replicate 64 0 in
+      let long : length vs ≡ length (fieldsOf d) + 64 = length-append (fieldsOf d) (replicate 64 0) in
+      let here : part (p ++ laid vs) (2064 + 8 * n) 8 ≡ bytes 8 (getD vs n 0) = ap (λ m. part (p ++ laid vs) (m + 8 * n) 8) (sym front) ∙ part-behind p (laid vs) (8 * n) 8 ∙ part-laid vs n (omega (arith, long, fields-long)) in
+      ap number here ∙ value-of-bytes 8 (getD vs n 0) ∙ ap (λ v. v % 2 ^ 64) (List·getD-append (fieldsOf d) (replicate 64 0) 0 n (omega (arith, fields-long)))
+
+  field-in : (f : Field) → Real f → numberOf f < 768 → numberIn (bitsOf f) (imageOf d) (numberOf f) ≡ holds f d
+  unfolding numberIn
+  field-in f r h =
+      ap (λ v. v % 2 ^ bitsOf f) (number-at (numberOf f) h)
+      ∙ low-low 64 (bitsOf f) (getD (fieldsOf d) (numberOf f) 0) (leb-true (bitsOf f) 64 (some-to-64 f .1))
+      ∙ ap (λ v. v % 2 ^ bitsOf f) (holds-number f d s r)
+      ∙ mod-eq-of-lt (holds-fits f d s)
+
+-- ---- rows of fields read back
+
+numbers-are : (bits : ℕ) (b : List ℕ) (n k : ℕ) (xs : List ℕ) → length xs ≡ k → ((i : ℕ) → i < k → numberIn bits b (n + i) ≡ getD xs i 0) → numbersIn bits b n k ≡ xs
+unfolding numbersIn
+numbers-are bits b n zero [] e h = refl
+numbers-are bits b n zero (x ∷ xs) e h = absurd (omega (arith, e))
+numbers-are bits b n (suc k) [] e h = absurd (omega (arith, e))
+numbers-are bits b n (suc k) (x ∷ xs) e h =
+    let first : numberIn bits b n ≡ x = rw (add-zero n) at (h 0 (omega arith)) in
+    let rest : numbersIn bits b (suc n) k ≡ xs = numbers-are bits b (suc n) k xs (suc-inj e) (λ i l. ap (numberIn bits b) (suc-add n i ∙ sym (add-suc n i)) ∙ h (suc i) (omega (arith, l))) in
+    rw (first, rest) refl
+
+three-are : (l : List Controller) → length l ≡ 3 → l ≡ controller l 0 ∷ controller l 1 ∷ controller l 2 ∷ []
+three-are l e = in-three (λ l. l ≡ controller l 0 ∷ controller l 1 ∷ controller l 2 ∷ []) (λ a b c. refl) l e
+
+made-of : (k : Controller) {masks forced lines config : ℕ} {levels : List ℕ} → k .masks ≡ masks → k .forced ≡ forced → k .lines ≡ lines → k .levels ≡ levels → k .config ≡ config
+    → _≡_ {A = Controller} k (record { masks = masks; forced = forced; lines = lines; levels = levels; config = config })
+made-of k a b c d e = rw (← a, ← b, ← c, ← d, ← e) refl
+
+with-own : (d : Device) {l : List Controller} {b : Bool} → d .controllers ≡ l → d .«ignore_masks» ≡ b
+    → _≡_ {A = Device} d (record {
+      erq = d .erq;
+      eei = d .eei;
+      int = d .int;
+      err = d .err;
+      kick = d .kick;
+      deferred = d .deferred;
+      deadline = d .deadline;
+      standing = d .standing;
+      table = d .table;
+      busy = d .busy;
+      majors = d .majors;
+      taken = d .taken;
+      pending = d .pending;
+      controllers = l;
+      cr = d .cr;
+      level = d .level;
+      «ignore_masks» = b;
+    })
+with-own d p q = rw (← p, ← q) refl
+
+alike-self : (a : List ℕ) → alike a a ≡ true
+unfolding alike
+alike-self [] = refl
+alike-self (x ∷ a) = rw (eq-eqb x x refl) (alike-self a)
+
+module _ (d : Device) (s : Sound d) (t : length (d .table) ≡ 2048) where
+  at-image : (f : Field) → Real f → numberOf f < 768 → holds f d ≡ numberIn (bitsOf f) (imageOf d) (numberOf f)
+  at-image f r h = sym (field-in d s t f r h)
+
+  row : (bits n k : ℕ) (xs : List ℕ) → length xs ≡ k → ((i : ℕ) → i < k → numberIn bits (imageOf d) (n + i) ≡ getD xs i 0) → xs ≡ numbersIn bits (imageOf d) n k
+  row bits n k xs e h = sym (numbers-are bits (imageOf d) n k xs e h)
+
+  table-first : d .table ≡ part (imageOf d) 0 2048
+  unfolding imageOf
+  table-first =
+      let flag = flagged (d .«ignore_masks») in
+      let rest = laid (fieldsOf d ++ replicate 64 0) in
+      let e : part (d .table ++ (flag ++ rest)) 0 (length (d .table)) ≡ d .table = part-first (d .table) (flag ++ rest) in
+      sym (ap (λ l. part l 0 2048) (append-assoc (d .table) flag rest) ∙ (rw t at e))
+
+  setting : d .«ignore_masks» ≡ eqb (getD (imageOf d) 2048 0) 1
+  unfolding imageOf flagged
+  setting =
+      let flag = flagged (d .«ignore_masks») in
+      let rest = laid (fieldsOf d ++ replicate 64 0) in
+      let e : getD ((d .table ++ flag) ++ rest) 2048 0 ≡ cond (d .«ignore_masks») 1 0 =
+      ap (λ (l : List ℕ). getD l 2048 0) (append-assoc (d .table) flag rest) ∙ getD-at (d .table) (cond (d .«ignore_masks») 1 0) (replicate 15 0 ++ rest) 0 2048 t in
+      rw e (either (d .«ignore_masks»))
+    where
+      either : (b : Bool) → b ≡ eqb (cond b 1 0) 1
+      either true = refl
+      either false = refl
+
+  levels : (c from : ℕ) → ((i : ℕ) → i < 64 → numberIn 8 (imageOf d) (from + i) ≡ holds (SOURCE c i) d) → length (controller (d .controllers) c .levels) ≡ 64
+      → controller (d .controllers) c .levels ≡ numbersIn 8 (imageOf d) from 64
+  levels c from h e = row 8 from 64 (controller (d .controllers) c .levels) e h
+
+  own : (c : ℕ) → c < 3 → controller (d .controllers) c ≡ controllerIn (imageOf d) c
+  unfolding controllerIn bitsOf numberOf spot partsOf
+  own zero h =
+      made-of (controller (d .controllers) 0) (at-image (MASKS 0) (lit< tt) (lit< tt)) (at-image (FORCED 0) (lit< tt) (lit< tt)) (at-image (LINES 0) (lit< tt) (lit< tt))
+      (levels 0 256 (λ i l. field-in d s t (SOURCE 0 i) l (omega (arith, l))) (sized d s .1 .1 .1 .1 .0)) (at-image (CONFIG 0) (lit< tt) (lit< tt))
+  own (suc zero) h =
+      made-of (controller (d .controllers) 1) (at-image (MASKS 1) (lit< tt) (lit< tt)) (at-image (FORCED 1) (lit< tt) (lit< tt)) (at-image (LINES 1) (lit< tt) (lit< tt))
+      (levels 1 320 (λ i l. field-in d s t (SOURCE 1 i) l (omega (arith, l))) (sized d s .1 .1 .1 .1 .1 .0)) (at-image (CONFIG 1) (lit< tt) (lit< tt))
+  own (suc (suc zero)) h =
+      made-of (controller (d .controllers) 2) (at-image (MASKS 2) (lit< tt) (lit< tt)) (at-image (FORCED 2) (lit< tt) (lit< tt)) (at-image (LINES 2) (lit< tt) (lit< tt))
+      (levels 2 384 (λ i l. field-in d s t (SOURCE 2 i) l (omega (arith, l))) (sized d s .1 .1 .1 .1 .1 .1 .0)) (at-image (CONFIG 2) (lit< tt) (lit< tt))
+  own (suc (suc (suc c))) h = absurd (omega arith)
+
+  -- the device that stands in a device's image
+  pub image-round : deviceIn (imageOf d) ≡ d
+  unfolding bitsOf numberOf spot partsOf
+  image-round =
+      let f : (g : Field) → Real g → numberOf g < 768 → holds g d ≡ numberIn (bitsOf g) (imageOf d) (numberOf g) = at-image in
+      let in-rows = sized d s .1 in
+      sym (with-own d (three-are (d .controllers) (s .three)) setting
+      ∙ device-got (imageOf d) (f ERQ (lit< tt) (lit< tt)) (f EEI (lit< tt) (lit< tt)) (f INT (lit< tt) (lit< tt)) (f ERR (lit< tt) (lit< tt)) (f KICK (lit< tt) (lit< tt))
+      (f DEFERRED (lit< tt) (lit< tt)) (f DEADLINE (lit< tt) (lit< tt)) (f STANDING (lit< tt) (lit< tt)) table-first
+      (row 64 64 64 (d .busy) (in-rows .0) (λ i l. field-in d s t (BUSY i) l (omega (arith, l))))
+      (row 64 128 64 (d .majors) (in-rows .1 .0) (λ i l. field-in d s t (MAJORS i) l (omega (arith, l))))
+      (row 64 576 192 (d .taken) (in-rows .1 .1 .1 .1 .1 .1 .1 .0) (λ i l. taken-at i l))
+      (row 32 192 64 (d .pending) (in-rows .1 .1 .0) (λ i l. field-in d s t (PENDING i) l (omega (arith, l))))
+      (own 0 (lit< tt)) (own 1 (lit< tt)) (own 2 (lit< tt)) (f CR (lit< tt) (lit< tt)) (f LEVEL (lit< tt) (lit< tt)))
+    where
+      taken-at : (i : ℕ) → i < 192 → numberIn 64 (imageOf d) (576 + i) ≡ getD (d .taken) i 0
+      taken-at i l = ap (numberIn 64 (imageOf d)) (omega arith) ∙ field-in d s t (TAKEN i) (unfold spot in l) (unfold numberOf in omega (arith, l))
+
+  pub image-one : isImage (imageOf d) ≡ true
+  unfolding isImage
+  image-one = rw image-round (alike-self (imageOf d))
+
+-- no two devices have the same image
+pub image-only : (d e : Device) → Sound d → Sound e → length (d .table) ≡ 2048 → length (e .table) ≡ 2048 → imageOf d ≡ imageOf e → d ≡ e
+image-only d e s t a b p = sym (image-round d s a) ∙ ap deviceIn p ∙ image-round e t b
+
+-- so of every value of the declared type: its image is one, and the device in it is that value
+pub typed-round : (d : Device) → Typed d → (isImage (imageOf d) ≡ true) × (deviceIn (imageOf d) ≡ d)
+typed-round d g = (image-one d (sound d g) (table-size d g), image-round d (sound d g) (table-size d g))

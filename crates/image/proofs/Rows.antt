@@ -1,0 +1,220 @@
+-- The rows of an image, laid down one behind the other, are the image. Assumes nothing.
+use mathlib.Core.Bool.{Bool, true, false}
+use mathlib.Core.List.{List, [], _∷_, _++_, append-nil, append-assoc}
+use mathlib.Core.Path.{_≡_, refl, sym, ap, _∙_}
+use Prim.Native.Nat.{ℕ, _+_, _*_, _^_, _<_}
+use native.Mathlib.Nat.{zero-add}
+use native.Mathlib.Omega.{arith}
+use lib.Dec.{eqb}
+use lib.ListN.{length, getD, replicate, length-append}
+use Rattle.rules.specs.Act.{CR, LEVEL}
+use Rattle.rules.specs.Bytes.{bytes, part, splice}
+use Rattle.rules.specs.Fields.{joined, headOf, partsOf, fieldsOf, controller, masksOf, bitsOf}
+use Rattle.rules.specs.declared.Controller.{Controller}
+use Rattle.rules.specs.declared.Device.{Device}
+use Rattle.rules.proofs.BytesLaws.{length-part}
+use Rattle.rules.proofs.FieldLaws.{sizes, Sound, sized, holds-fits}
+use Rattle.rules.proofs.PartLaws.{Sized}
+use Rattle.image.specs.Image.{laid, flagged, imageOf, deviceIn, controllerIn, numberIn, numbersIn, alike, isImage}
+use Rattle.image.specs.Parts.{channelsOf, levelsOf, takenOf}
+use Rattle.image.proofs.Laws.{length-laid, splice-next, splice-all, length-numbers, alike-lengths, alike-same}
+
+laid-append : (xs ys : List ℕ) → laid (xs ++ ys) ≡ laid xs ++ laid ys
+unfolding laid
+laid-append [] ys = refl
+laid-append (x ∷ xs) ys = ap (λ l. bytes 8 x ++ l) (laid-append xs ys) ∙ sym (append-assoc (bytes 8 x) (laid xs) (laid ys))
+
+joined-more : (ps : List (List ℕ)) (v : List ℕ) → joined (ps ++ v ∷ []) ≡ joined ps ++ v
+unfolding joined
+joined-more [] v = append-nil v
+joined-more (p ∷ ps) v = ap (λ l. p ++ l) (joined-more ps v) ∙ sym (append-assoc p (joined ps) v)
+
+unfoldable pub total : List ℕ → ℕ
+total [] = 0
+total (n ∷ ns) = n + total ns
+
+pub length-joined : (ns : List ℕ) (ps : List (List ℕ)) → Sized ns ps → length (joined ps) ≡ total ns
+unfolding joined total
+length-joined [] [] s = refl
+length-joined [] (p ∷ ps) s = absurd s
+length-joined (n ∷ ns) [] s = absurd s
+length-joined (n ∷ ns) (p ∷ ps) s = omega (arith, length-append p (joined ps), s .0, length-joined ns ps (s .1))
+
+-- ---- a row, and one more
+
+pub row-first : (x y : List ℕ) (at : ℕ) (v : List ℕ) → y ≡ splice x at (laid v) → y ≡ splice x at (laid (joined (v ∷ [])))
+unfolding joined
+row-first x y at v e = e ∙ ap (λ l. splice x at (laid l)) (sym (append-nil v))
+
+pub row-more : (x y z : List ℕ) (at b : ℕ) (ps : List (List ℕ)) (v ns : List ℕ) → Sized ns ps → b ≡ at + 8 * total ns
+    → y ≡ splice x at (laid (joined ps)) → z ≡ splice y b (laid v) → z ≡ splice x at (laid (joined (ps ++ v ∷ [])))
+row-more x y z at b ps v ns s e p q =
+    let here : b ≡ at + length (laid (joined ps)) = omega (arith, e, length-laid (joined ps), length-joined ns ps s) in
+    let all : laid (joined ps) ++ laid v ≡ laid (joined (ps ++ v ∷ [])) = sym (laid-append (joined ps) v) ∙ ap laid (sym (joined-more ps v)) in
+    q ∙ ap (λ l. splice l b (laid v)) p ∙ ap (λ n. splice (splice x at (laid (joined ps))) n (laid v)) here ∙ splice-next x at (laid (joined ps)) (laid v) ∙ ap (splice x at) all
+
+-- a controller's level bytes
+pub laid-as : (x y : List ℕ) (at : ℕ) {k m : Controller} → y ≡ splice x at (laid (k .levels)) → k ≡ m → y ≡ splice x at (laid (m .levels))
+laid-as x y at e p = e ∙ ap (λ (k : Controller). splice x at (laid (k .levels))) p
+
+-- ---- the rows of a device
+
+-- the head as the code makes it, of the device's controllers k, l, m
+pub head-laid : (d : Device) (x y : List ℕ) (at : ℕ) {k l m : Controller} → k ≡ controller (d .controllers) 0 → l ≡ controller (d .controllers) 1 → m ≡ controller (d .controllers) 2
+    → y ≡ splice x at (laid (d .cr ∷ d .erq ∷ d .eei ∷ d .int ∷ d .err ∷ d .kick ∷ d .deferred ∷ d .deadline ∷ d .level ∷ d .standing ∷ 0 ∷ 0 ∷ 0 ∷ 0 ∷ 0 ∷ 0 ∷ masksOf k (masksOf l (masksOf m (replicate 36 0)))))
+    → y ≡ splice x at (laid (headOf d))
+unfolding headOf
+head-laid d x y at p q r e = rw (← p, ← q, ← r) e
+
+module _ (d : Device) (s : Sound d) where
+  pub narrow : (d .cr < 2 ^ 32) × (d .level < 2 ^ 8)
+  unfolding bitsOf
+  narrow = (holds-fits CR d s, holds-fits LEVEL d s)
+
+  pub channels-long : (length (d .busy) ≡ 64) × (length (d .majors) ≡ 64) × (length (d .pending) ≡ 64)
+  unfolding partsOf
+  channels-long = let t = sized d s .1 in (t .0, t .1 .0, t .1 .1 .0)
+
+  pub taken-long : length (d .taken) ≡ 192
+  unfolding partsOf
+  taken-long = sized d s .1 .1 .1 .1 .1 .1 .1 .1 .0
+
+module _ (d : Device) (s : Sound d) (x y z w u : List ℕ) where
+  pub channels-laid : y ≡ splice x 2576 (laid (d .busy)) → z ≡ splice y 3088 (laid (d .majors)) → w ≡ splice z 3600 (laid (d .pending))
+      → w ≡ splice x 2576 (laid (joined (channelsOf d)))
+  unfolding total partsOf
+  channels-laid p q r =
+      let t = sized d s in
+      row-more x z w 2576 3600 (d .busy ∷ d .majors ∷ []) (d .pending) (64 ∷ 64 ∷ []) (t .1 .0, (t .1 .1 .0, tt)) refl
+      (row-more x y z 2576 3088 (d .busy ∷ []) (d .majors) (64 ∷ []) (t .1 .0, tt) refl (row-first x y 2576 (d .busy) p) q) r
+
+  pub levels-laid : y ≡ splice x 4112 (laid (controller (d .controllers) 0 .levels)) → z ≡ splice y 4624 (laid (controller (d .controllers) 1 .levels))
+      → w ≡ splice z 5136 (laid (controller (d .controllers) 2 .levels)) → u ≡ splice w 5648 (laid (replicate 128 0)) → u ≡ splice x 4112 (laid (joined (levelsOf d)))
+  unfolding total partsOf
+  levels-laid p q r v =
+      let t = sized d s .1 .1 .1 .1 in
+      let k : ℕ → List ℕ = λ c. controller (d .controllers) c .levels in
+      row-more x w u 4112 5648 (k 0 ∷ k 1 ∷ k 2 ∷ []) (replicate 128 0) (64 ∷ 64 ∷ 64 ∷ []) (t .0, (t .1 .0, (t .1 .1 .0, tt))) refl
+      (row-more x z w 4112 5136 (k 0 ∷ k 1 ∷ []) (k 2) (64 ∷ 64 ∷ []) (t .0, (t .1 .0, tt)) refl
+      (row-more x y z 4112 4624 (k 0 ∷ []) (k 1) (64 ∷ []) (t .0, tt) refl (row-first x y 4112 (k 0) p) q) r) v
+
+  pub taken-laid : y ≡ splice x 6672 (laid (d .taken)) → z ≡ splice y 8208 (laid (replicate 64 0)) → z ≡ splice x 6672 (laid (joined (takenOf d)))
+  unfolding total partsOf
+  taken-laid p q =
+      let t = sized d s .1 .1 .1 .1 .1 .1 .1 .1 in
+      row-more x y z 6672 8208 (d .taken ∷ []) (replicate 64 0) (192 ∷ []) (t .0, tt) refl (row-first x y 6672 (d .taken) p) q
+
+-- ---- the image
+
+rows : (d : Device) → joined (headOf d ∷ joined (channelsOf d) ∷ joined (levelsOf d) ∷ joined (takenOf d) ∷ []) ≡ fieldsOf d ++ replicate 64 0
+unfolding joined partsOf fieldsOf
+rows d = simp (append-assoc, append-nil)
+
+pub length-flagged : (b : Bool) → length (flagged b) ≡ 16
+unfolding flagged
+length-flagged b = refl
+
+pub length-image : (d : Device) → length (d .table) ≡ 2048 → Sized sizes (partsOf d) → length (imageOf d) ≡ 8720
+unfolding total imageOf fieldsOf
+length-image d t s =
+    let f : ℕ = length (d .table ++ flagged (d .«ignore_masks»)) in
+    let front : f ≡ 2064 = length-append (d .table) (flagged (d .«ignore_masks»)) ∙ rw (t, length-flagged (d .«ignore_masks»)) refl in
+    let n : length (joined (partsOf d) ++ replicate 64 0) ≡ 832 = length-append (joined (partsOf d)) (replicate 64 0) ∙ rw (length-joined sizes (partsOf d) s) refl in
+    length-append (d .table ++ flagged (d .«ignore_masks»)) (laid (joined (partsOf d) ++ replicate 64 0)) ∙ rw (front, length-laid (joined (partsOf d) ++ replicate 64 0), n) refl
+
+length-head : (d : Device) → length (headOf d) ≡ 64
+unfolding headOf
+length-head d = refl
+
+module _ (d : Device) (s : Sound d) (t : length (d .table) ≡ 2048) (x y z a b c e : List ℕ) where
+  length-channels : length (joined (channelsOf d)) ≡ 192
+  unfolding total partsOf
+  length-channels = let k = sized d s .1 in length-joined (64 ∷ 64 ∷ 64 ∷ []) (channelsOf d) (k .0, (k .1 .0, (k .1 .1 .0, tt)))
+
+  length-levels : length (joined (levelsOf d)) ≡ 320
+  unfolding total partsOf
+  length-levels = let k = sized d s .1 .1 .1 .1 in length-joined (64 ∷ 64 ∷ 64 ∷ 128 ∷ []) (levelsOf d) (k .0, (k .1 .0, (k .1 .1 .0, (refl, tt))))
+
+  fields-laid : a ≡ splice z 2064 (laid (headOf d)) → b ≡ splice a 2576 (laid (joined (channelsOf d))) → c ≡ splice b 4112 (laid (joined (levelsOf d)))
+      → e ≡ splice c 6672 (laid (joined (takenOf d))) → e ≡ splice z 2064 (laid (fieldsOf d ++ replicate 64 0))
+  unfolding total
+  fields-laid f g h i =
+      let h0 = headOf d in
+      let h1 = joined (channelsOf d) in
+      let h2 = joined (levelsOf d) in
+      let h3 = joined (takenOf d) in
+      row-more z c e 2064 6672 (h0 ∷ h1 ∷ h2 ∷ []) h3 (64 ∷ 192 ∷ 320 ∷ []) (length-head d, (length-channels, (length-levels, tt))) refl
+      (row-more z b c 2064 4112 (h0 ∷ h1 ∷ []) h2 (64 ∷ 192 ∷ []) (length-head d, (length-channels, tt)) refl
+      (row-more z a b 2064 2576 (h0 ∷ []) h1 (64 ∷ []) (length-head d, tt) refl (row-first z a 2064 h0 f) g) h) i
+      ∙ ap (λ l. splice z 2064 (laid l)) (rows d)
+
+  pub image-laid : length x ≡ 8720 → y ≡ splice x 0 (d .table) → z ≡ splice y 2048 (flagged (d .«ignore_masks»)) → a ≡ splice z 2064 (laid (headOf d))
+      → b ≡ splice a 2576 (laid (joined (channelsOf d))) → c ≡ splice b 4112 (laid (joined (levelsOf d))) → e ≡ splice c 6672 (laid (joined (takenOf d)))
+      → e ≡ imageOf d
+  unfolding imageOf
+  image-laid l p q f g h i =
+      let flag = flagged (d .«ignore_masks») in
+      let ns = laid (fieldsOf d ++ replicate 64 0) in
+      let front : z ≡ splice x 0 (d .table ++ flag) = q ∙ ap (λ m. splice m 2048 flag) p ∙ ap (λ n. splice (splice x 0 (d .table)) n flag) (sym (zero-add (length (d .table)) ∙ t)) ∙ splice-next x 0 (d .table) flag in
+      let long : length (d .table ++ flag) ≡ 2064 = length-append (d .table) flag ∙ rw (t, length-flagged (d .«ignore_masks»)) refl in
+      fields-laid f g h i
+      ∙ ap (λ m. splice m 2064 ns) front
+      ∙ ap (λ n. splice (splice x 0 (d .table ++ flag)) n ns) (sym (zero-add (length (d .table ++ flag)) ∙ long))
+      ∙ splice-next x 0 (d .table ++ flag) ns
+      ∙ splice-all x ((d .table ++ flag) ++ ns) (length-image d t (sized d s) ∙ sym l)
+
+-- ---- bytes of another length are no image
+
+sized-in : (b : List ℕ) → Sized sizes (partsOf (deviceIn b))
+unfolding partsOf deviceIn controllerIn headOf
+sized-in b =
+    (refl, (length-numbers 64 b 64 64, (length-numbers 64 b 128 64, (length-numbers 32 b 192 64, (length-numbers 8 b 256 64, (length-numbers 8 b 320 64, (length-numbers 8 b 384 64, (refl, (length-numbers 64 b 576 192, tt)))))))))
+
+table-in : (b : List ℕ) → length (deviceIn b .table) ≡ 2048
+unfolding deviceIn
+table-in b = length-part b 0 2048
+
+pub no-image : (b : List ℕ) → (length b ≡ 8720 → ⊥) → false ≡ isImage b
+unfolding isImage
+no-image b h = sym (alike-lengths (imageOf (deviceIn b)) b (λ e. h (sym e ∙ length-image (deviceIn b) (table-in b) (sized-in b))))
+
+-- an image is that of the device that stands in it
+pub image-is : (b : List ℕ) → isImage b ≡ true → imageOf (deviceIn b) ≡ b
+unfolding isImage
+image-is b h = alike-same (imageOf (deviceIn b)) b h
+
+pub image-long : (b : List ℕ) → isImage b ≡ true → length b ≡ 8720
+image-long b h = sym (ap length (image-is b h)) ∙ length-image (deviceIn b) (table-in b) (sized-in b)
+
+pub image-again : (b again : List ℕ) (d : Device) (r : Bool) → d ≡ deviceIn b → again ≡ imageOf d → r ≡ alike again b → r ≡ isImage b
+unfolding isImage
+image-again b again d r p q e = e ∙ ap (λ l. alike l b) (q ∙ ap imageOf p)
+
+-- ---- a device read
+
+pub device-got : (b : List ℕ) {erq eei int err kick deferred deadline standing cr level : ℕ} {table busy majors taken pending : List ℕ} {k l m : Controller}
+    → erq ≡ numberIn 64 b 1 → eei ≡ numberIn 64 b 2 → int ≡ numberIn 64 b 3 → err ≡ numberIn 64 b 4 → kick ≡ numberIn 64 b 5 → deferred ≡ numberIn 64 b 6
+    → deadline ≡ numberIn 64 b 7 → standing ≡ numberIn 64 b 9 → table ≡ part b 0 2048 → busy ≡ numbersIn 64 b 64 64 → majors ≡ numbersIn 64 b 128 64
+    → taken ≡ numbersIn 64 b 576 192 → pending ≡ numbersIn 32 b 192 64 → k ≡ controllerIn b 0 → l ≡ controllerIn b 1 → m ≡ controllerIn b 2
+    → cr ≡ numberIn 32 b 0 → level ≡ numberIn 8 b 8
+    → _≡_ {A = Device} (record {
+      erq = erq;
+      eei = eei;
+      int = int;
+      err = err;
+      kick = kick;
+      deferred = deferred;
+      deadline = deadline;
+      standing = standing;
+      table = table;
+      busy = busy;
+      majors = majors;
+      taken = taken;
+      pending = pending;
+      controllers = k ∷ l ∷ m ∷ [];
+      cr = cr;
+      level = level;
+      «ignore_masks» = eqb (getD b 2048 0) 1;
+    }) (deviceIn b)
+unfolding deviceIn
+device-got b a c d e f g h i j k l m n o p q r s = rw (a, c, d, e, f, g, h, i, j, k, l, m, n, o, p, q, r, s) refl

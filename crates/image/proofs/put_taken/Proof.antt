@@ -1,0 +1,39 @@
+-- `image::put_taken` meets its contract. Assumes nothing.
+use Rattle.image.proofs.Rows.{taken-laid, taken-long}
+use Rattle.rules.proofs.Typed.{sound}
+use native.Mathlib.Omega.{arith}
+use mathlib.Core.List.{[]}
+use borrow.Author.Needs.{needs}
+use Rattle.image.proofs.put_taken.Statement.{statement}
+use Rattle.image.proofs.put_taken.Tie as tie
+
+slice-aggregate-put-wides : tie.Need-slice-aggregate-put-wides
+slice-aggregate-put-wides c = search needs
+
+put-wides-requires : tie.Need-put-wides-requires
+put-wides-requires c κs = let a = c .before .before .before .before in omega (arith, taken-long (a .args .d) (sound (a .args .d) (a .good .1 .0)))
+
+slice-aggregate-put-wides-2 : tie.Need-slice-aggregate-put-wides-2
+slice-aggregate-put-wides-2 c = search needs
+
+put-wides-requires-2 : tie.Need-put-wides-requires-2
+put-wides-requires-2 c κs = search needs
+
+same-length : tie.Need-same-length
+same-length c = search needs
+
+returns : tie.Need-returns
+returns c =
+    let a = c .before .before .before .before .before .before .before .before .before .before .before .before in
+    taken-laid (a .args .d) (sound (a .args .d) (a .good .1 .0)) _ _ _ [] [] (c .before .before .before .before .before .before .before .put-wides .ensures) (c .before .before .put-wides2 .ensures)
+
+pub put-taken-spec : {M : Type 1} → statement M
+put-taken-spec =
+    tie.close
+    (tie.spec
+    slice-aggregate-put-wides
+    put-wides-requires
+    slice-aggregate-put-wides-2
+    put-wides-requires-2
+    same-length
+    returns)

@@ -1,0 +1,16 @@
+-- The fields of a device in the rows that the code lays them down in. Assumes nothing.
+use mathlib.Core.List.{List, [], _∷_}
+use Prim.Native.Nat.{ℕ}
+use lib.ListN.{replicate}
+use Rattle.rules.specs.Fields.{controller}
+use Rattle.rules.specs.declared.Device.{Device}
+
+abbrev pub channelsOf : Device → List (List ℕ)
+channelsOf d = d .busy ∷ d .majors ∷ d .pending ∷ []
+
+abbrev pub levelsOf : Device → List (List ℕ)
+levelsOf d =
+    controller (d .controllers) 0 .levels ∷ controller (d .controllers) 1 .levels ∷ controller (d .controllers) 2 .levels ∷ replicate 128 0 ∷ []
+
+abbrev pub takenOf : Device → List (List ℕ)
+takenOf d = d .taken ∷ replicate 64 0 ∷ []

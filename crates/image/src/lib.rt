@@ -1,0 +1,333 @@
+// The image of a device: a device laid down as 8,720 bytes, and read from them. docs/ABI.md has the layout, specs/Image.antt the definition.
+use rules::Controller;
+use rules::Device;
+ghost use mathlib.Core.Bool.{cond};
+ghost use mathlib.Core.Path.{_≡_};
+ghost use Prim.Native.Nat.{_+_, _*_, _≤_, _<_};
+ghost use lib.ListN.{length, getD};
+ghost use Rattle.rules.specs.Bytes.{splice, part};
+ghost use Rattle.rules.specs.Fields.{joined, headOf};
+ghost use Rattle.image.specs.Image.{laid, flagged, imageOf, numberIn, numbersIn, controllerIn, deviceIn, alike, isImage};
+ghost use Rattle.image.specs.Parts.{channelsOf, levelsOf, takenOf};
+
+// ---- laying down: numbers of 64, 32 and 8 bits, each in 8 bytes, from place `from` on
+
+fn put_wides(image: &mut [u8], from: usize, v: &[u64])
+    requires { ⌜ 2064 + 8 * (from + length (now v)) ≤ length (now image) ⌝ }
+    ensures { λ _. ⌜ now (image .exit) ≡ splice (now (image .entry)) (2064 + 8 * from) (laid (now (v .entry))) ⌝ }
+{
+    let mut left = v.len();
+    while 0 < left {
+        left -= 1;
+        words::put8(image, 2064 + 8 * (from + left), v[left]);
+    }
+}
+
+fn count_of(v: &[u32], i: usize) -> u32
+    requires { ⌜ i < length (now v) ⌝ }
+    ensures { λ r. ⌜ r ≡ getD (now (v .entry)) i 0 ⌝ }
+{
+    v[i]
+}
+
+fn byte_of(v: &[u8], i: usize) -> u8
+    requires { ⌜ i < length (now v) ⌝ }
+    ensures { λ r. ⌜ r ≡ getD (now (v .entry)) i 0 ⌝ }
+{
+    v[i]
+}
+
+fn put_counts(image: &mut [u8], from: usize, v: &[u32])
+    requires { ⌜ 2064 + 8 * (from + length (now v)) ≤ length (now image) ⌝ }
+    ensures { λ _. ⌜ now (image .exit) ≡ splice (now (image .entry)) (2064 + 8 * from) (laid (now (v .entry))) ⌝ }
+{
+    let mut left = v.len();
+    while 0 < left {
+        left -= 1;
+        words::put8(image, 2064 + 8 * (from + left), count_of(v, left) as u64);
+    }
+}
+
+fn put_bytes(image: &mut [u8], from: usize, v: &[u8])
+    requires { ⌜ 2064 + 8 * (from + length (now v)) ≤ length (now image) ⌝ }
+    ensures { λ _. ⌜ now (image .exit) ≡ splice (now (image .entry)) (2064 + 8 * from) (laid (now (v .entry))) ⌝ }
+{
+    let mut left = v.len();
+    while 0 < left {
+        left -= 1;
+        words::put8(image, 2064 + 8 * (from + left), byte_of(v, left) as u64);
+    }
+}
+
+// The bytes of `table` laid over the first of the image.
+fn put_table(image: &mut [u8], table: &[u8])
+    requires { ⌜ length (now table) ≤ length (now image) ⌝ }
+    ensures { λ _. ⌜ now (image .exit) ≡ splice (now (image .entry)) 0 (now (table .entry)) ⌝ }
+{
+    let mut left = table.len();
+    while 0 < left {
+        left -= 1;
+        image[left] = table[left];
+    }
+}
+
+// 1 in the highest of 8 bytes, or 0.
+fn flag_of(ignore_masks: bool) -> u64
+    ensures { λ r. ⌜ r ≡ cond «ignore_masks» 0x0100000000000000 0 ⌝ }
+{
+    if ignore_masks { 0x0100000000000000 } else { 0 }
+}
+
+// Bytes 2048 to 2063.
+fn put_flag(image: &mut [u8], ignore_masks: bool)
+    requires { ⌜ 2064 ≤ length (now image) ⌝ }
+    ensures { λ _. ⌜ now (image .exit) ≡ splice (now (image .entry)) 2048 (flagged «ignore_masks») ⌝ }
+{
+    words::put8(image, 2048, flag_of(ignore_masks));
+    words::put8(image, 2056, 0);
+}
+
+// ---- reading
+
+fn wide_at(image: &[u8], n: usize) -> u64
+    requires { ⌜ 2072 + 8 * n ≤ length (now image) ⌝ }
+    ensures { λ r. ⌜ r ≡ numberIn 64 (now (image .entry)) n ⌝ }
+{
+    words::get8(image, 2064 + 8 * n)
+}
+
+fn count_at(image: &[u8], n: usize) -> u32
+    requires { ⌜ 2072 + 8 * n ≤ length (now image) ⌝ }
+    ensures { λ r. ⌜ r ≡ numberIn 32 (now (image .entry)) n ⌝ }
+{
+    (words::get8(image, 2064 + 8 * n) % 0x100000000) as u32
+}
+
+fn half_at(image: &[u8], n: usize) -> u16
+    requires { ⌜ 2072 + 8 * n ≤ length (now image) ⌝ }
+    ensures { λ r. ⌜ r ≡ numberIn 16 (now (image .entry)) n ⌝ }
+{
+    (words::get8(image, 2064 + 8 * n) % 0x10000) as u16
+}
+
+fn byte_at(image: &[u8], n: usize) -> u8
+    requires { ⌜ 2072 + 8 * n ≤ length (now image) ⌝ }
+    ensures { λ r. ⌜ r ≡ numberIn 8 (now (image .entry)) n ⌝ }
+{
+    (words::get8(image, 2064 + 8 * n) % 0x100) as u8
+}
+
+fn get_wides(image: &[u8], from: usize, into: &mut [u64])
+    requires { ⌜ 2064 + 8 * (from + length (now into)) ≤ length (now image) ⌝ }
+    ensures { λ _. ⌜ now (into .exit) ≡ numbersIn 64 (now (image .entry)) from (length (now (into .entry))) ⌝ }
+{
+    let mut left = into.len();
+    while 0 < left {
+        left -= 1;
+        into[left] = wide_at(image, from + left);
+    }
+}
+
+fn get_counts(image: &[u8], from: usize, into: &mut [u32])
+    requires { ⌜ 2064 + 8 * (from + length (now into)) ≤ length (now image) ⌝ }
+    ensures { λ _. ⌜ now (into .exit) ≡ numbersIn 32 (now (image .entry)) from (length (now (into .entry))) ⌝ }
+{
+    let mut left = into.len();
+    while 0 < left {
+        left -= 1;
+        into[left] = count_at(image, from + left);
+    }
+}
+
+fn get_bytes(image: &[u8], from: usize, into: &mut [u8])
+    requires { ⌜ 2064 + 8 * (from + length (now into)) ≤ length (now image) ⌝ }
+    ensures { λ _. ⌜ now (into .exit) ≡ numbersIn 8 (now (image .entry)) from (length (now (into .entry))) ⌝ }
+{
+    let mut left = into.len();
+    while 0 < left {
+        left -= 1;
+        into[left] = byte_at(image, from + left);
+    }
+}
+
+fn get_table(image: &[u8], into: &mut [u8])
+    requires { ⌜ length (now into) ≤ length (now image) ⌝ }
+    ensures { λ _. ⌜ now (into .exit) ≡ part (now (image .entry)) 0 (length (now (into .entry))) ⌝ }
+{
+    let mut left = into.len();
+    while 0 < left {
+        left -= 1;
+        into[left] = image[left];
+    }
+}
+
+// Byte by byte.
+fn alike(a: &[u8], b: &[u8]) -> bool
+    requires { ⌜ length (now a) ≡ length (now b) ⌝ }
+    ensures { λ r. ⌜ r ≡ alike (now (a .entry)) (now (b .entry)) ⌝ }
+{
+    let mut i = 0;
+    while i < a.len() {
+        if a[i] != b[i] {
+            return false;
+        }
+        i += 1;
+    }
+    true
+}
+
+// ---- a device
+
+// Fields 0 to 63: the scalars, and each controller's own four.
+fn put_head(image: &mut [u8], d: Device)
+    requires { ⌜ 2576 ≤ length (now image) ⌝ }
+    ensures { λ _. ⌜ now (image .exit) ≡ splice (now (image .entry)) 2064 (laid (headOf d)) ⌝ }
+{
+    let a = device::controller_at(d, 0);
+    let b = device::controller_at(d, 1);
+    let c = device::controller_at(d, 2);
+    let mut head = [0u64; 64];
+    head[0] = d.cr as u64;
+    head[1] = d.erq;
+    head[2] = d.eei;
+    head[3] = d.int;
+    head[4] = d.err;
+    head[5] = d.kick;
+    head[6] = d.deferred;
+    head[7] = d.deadline;
+    head[8] = d.level as u64;
+    head[9] = d.standing;
+    head[16] = a.masks;
+    head[17] = a.forced;
+    head[18] = a.lines;
+    head[19] = a.config as u64;
+    head[20] = b.masks;
+    head[21] = b.forced;
+    head[22] = b.lines;
+    head[23] = b.config as u64;
+    head[24] = c.masks;
+    head[25] = c.forced;
+    head[26] = c.lines;
+    head[27] = c.config as u64;
+    put_wides(image, 0, &head);
+}
+
+// Fields 256 to 575: the level bytes of the three controllers, and 128 numbers that name no field.
+fn put_levels(image: &mut [u8], d: Device)
+    requires { ⌜ 6672 ≤ length (now image) ⌝ }
+    ensures { λ _. ⌜ now (image .exit) ≡ splice (now (image .entry)) 4112 (laid (joined (levelsOf d))) ⌝ }
+{
+    let a = device::controller_at(d, 0).levels;
+    let b = device::controller_at(d, 1).levels;
+    let c = device::controller_at(d, 2).levels;
+    let none = [0u64; 128];
+    put_bytes(image, 256, &a);
+    put_bytes(image, 320, &b);
+    put_bytes(image, 384, &c);
+    put_wides(image, 448, &none);
+}
+
+// Fields 64 to 255: busy times, majors, pending counts.
+fn put_channels(image: &mut [u8], d: Device)
+    requires { ⌜ 4112 ≤ length (now image) ⌝ }
+    ensures { λ _. ⌜ now (image .exit) ≡ splice (now (image .entry)) 2576 (laid (joined (channelsOf d))) ⌝ }
+{
+    let busy = d.busy;
+    let majors = d.majors;
+    let pending = d.pending;
+    put_wides(image, 64, &busy);
+    put_wides(image, 128, &majors);
+    put_counts(image, 192, &pending);
+}
+
+// Fields 576 to 767: how often each vector was taken; and 64 numbers that name no field.
+fn put_taken(image: &mut [u8], d: Device)
+    requires { ⌜ 8720 ≤ length (now image) ⌝ }
+    ensures { λ _. ⌜ now (image .exit) ≡ splice (now (image .entry)) 6672 (laid (joined (takenOf d))) ⌝ }
+{
+    let taken = d.taken;
+    let none = [0u64; 64];
+    put_wides(image, 576, &taken);
+    put_wides(image, 768, &none);
+}
+
+// The whole image of a device.
+pub fn put_device(image: &mut [u8], d: Device)
+    requires { ⌜ length (now image) ≡ 8720 ⌝ }
+    ensures { λ _. ⌜ now (image .exit) ≡ imageOf d ⌝ }
+{
+    let table = d.table;
+    put_table(image, &table);
+    put_flag(image, d.ignore_masks);
+    put_head(image, d);
+    put_channels(image, d);
+    put_levels(image, d);
+    put_taken(image, d);
+}
+
+fn get_controller(image: &[u8], c: usize) -> Controller
+    requires { ⌜ (length (now image) ≡ 8720) × (c < 3) ⌝ }
+    ensures { λ r. ⌜ r ≡ controllerIn (now (image .entry)) c ⌝ }
+{
+    let mut levels = [0u8; 64];
+    get_bytes(image, 256 + 64 * c, &mut levels);
+    Controller {
+        masks: wide_at(image, 16 + 4 * c),
+        forced: wide_at(image, 17 + 4 * c),
+        lines: wide_at(image, 18 + 4 * c),
+        levels,
+        config: half_at(image, 19 + 4 * c),
+    }
+}
+
+// The device that stands in an image.
+pub fn get_device(image: &[u8]) -> Device
+    requires { ⌜ length (now image) ≡ 8720 ⌝ }
+    ensures { λ r. ⌜ r ≡ deviceIn (now (image .entry)) ⌝ }
+{
+    let mut table = [0u8; 2048];
+    get_table(image, &mut table);
+    let mut busy = [0u64; 64];
+    get_wides(image, 64, &mut busy);
+    let mut majors = [0u64; 64];
+    get_wides(image, 128, &mut majors);
+    let mut taken = [0u64; 192];
+    get_wides(image, 576, &mut taken);
+    let mut pending = [0u32; 64];
+    get_counts(image, 192, &mut pending);
+    let a = get_controller(image, 0);
+    let b = get_controller(image, 1);
+    let c = get_controller(image, 2);
+    Device {
+        erq: wide_at(image, 1),
+        eei: wide_at(image, 2),
+        int: wide_at(image, 3),
+        err: wide_at(image, 4),
+        kick: wide_at(image, 5),
+        deferred: wide_at(image, 6),
+        deadline: wide_at(image, 7),
+        standing: wide_at(image, 9),
+        table,
+        busy,
+        majors,
+        taken,
+        pending,
+        controllers: [a, b, c],
+        cr: count_at(image, 0),
+        level: byte_at(image, 8),
+        ignore_masks: image[2048] == 1,
+    }
+}
+
+// The bytes are a device's: laying down the device that stands in them gives them again.
+pub fn is_image(image: &[u8]) -> bool
+    ensures { λ r. ⌜ r ≡ isImage (now (image .entry)) ⌝ }
+{
+    if image.len() != 8720 {
+        return false;
+    }
+    let d = get_device(image);
+    let mut again = [0u8; 8720];
+    put_device(&mut again, d);
+    alike(&again, image)
+}
