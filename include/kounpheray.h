@@ -67,7 +67,7 @@ static inline uint32_t kp_low(uint64_t answer) { return (uint32_t)answer; }
 
 /* Makes a fresh device: zero in every field but the masks (all ones) and the
  * deadline (2^64 - 1). ignore_masks: 0, or 1 for a device whose controllers
- * ignore their masks. */
+ * ignore their masks; 255 is answered for any other number. */
 uint64_t kp_fresh(uint8_t *image, size_t image_len, uint32_t ignore_masks);
 
 /* Reads a register. Writes nothing. */

@@ -64,9 +64,11 @@ fn archive() -> PathBuf {
 /// and no longer name in front.
 fn has_symbol(archive: &[u8], name: &str) -> bool {
     let name = name.as_bytes();
-    archive
-        .windows(name.len() + 2)
-        .any(|part| part[0] == 0 && &part[1..=name.len()] == name && part[name.len() + 1] == 0)
+    let in_a_name = |byte: u8| byte.is_ascii_alphanumeric() || byte == b'_';
+    archive.windows(name.len() + 2).any(|part| {
+        let (first, last) = (part[0], part[name.len() + 1]);
+        !in_a_name(first) && &part[1..=name.len()] == name && last == 0
+    })
 }
 
 fn stop(why: &str) -> ! {

@@ -69,6 +69,31 @@ impl Scene {
         scene
     }
 
+    /// A scene in which something interrupts: a few sources with levels, some
+    /// on lines and some forced, some of them masked.
+    pub fn ringing(random: &mut Random, device: Device, base: u32, window: Vec<u8>) -> Scene {
+        let channels = vec![channel(random)];
+        let mut scene = Scene { device, base, window, channels, counted: 0, nodes: Vec::new() };
+        for _ in 0..=random.below(3) {
+            let controller = random.pick(&Controller::ALL);
+            let source = random.below(64);
+            let level = random.pick(&[0, 1, 2, 3, 5, 6, 7, 7, 0x0F, 0xFA]);
+            scene.put(Field::SourceLevel(controller, Source::new(source as u8)), level);
+            let raised = if random.once_in(2) {
+                Field::Frc(controller)
+            } else {
+                Field::Lines(controller)
+            };
+            let there = scene.device.get(raised);
+            scene.put(raised, there | 1 << source);
+            if !random.once_in(5) {
+                let masks = scene.device.get(Field::Imr(controller));
+                scene.put(Field::Imr(controller), masks & !(1 << source));
+            }
+        }
+        scene
+    }
+
     /// A random run or service.
     pub fn run_or_service(&self, random: &mut Random) -> Call {
         let time = Time { now: random.pick(&TIMES), pace: random.pick(&PACES) };

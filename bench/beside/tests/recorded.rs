@@ -4,13 +4,13 @@
 use beside::recorded::{read, replay};
 use std::process::Command;
 
-const LIST: &str = include_str!("../../recorded/answers.txt");
+const LIST: &str = include_str!("../../../crates/replay/data/answers.txt");
 
 #[test]
 fn the_engine_answers_as_recorded() {
     let (cases, calls) = replay(&read(LIST));
     println!("recorded list: {cases} cases, {calls} calls, {} bytes", LIST.len());
-    assert!(cases >= 300 && LIST.len() < 200_000);
+    assert!(cases >= 360 && LIST.len() < 250_000);
 }
 
 #[test]
@@ -20,7 +20,7 @@ fn the_rust_answers_as_recorded() {
     }
     let made = record().output().expect("the program that records runs");
     assert!(made.status.success(), "{}", String::from_utf8_lossy(&made.stderr));
-    assert!(made.stdout == LIST.as_bytes(), "recorded/answers.txt is not what `record` writes");
+    assert!(made.stdout == LIST.as_bytes(), "the recorded list is not what `record` writes");
 }
 
 /// The recorder, through the emulator where this test runs in one.

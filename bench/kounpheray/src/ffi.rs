@@ -220,25 +220,7 @@ pub fn run(
     staging: &mut [u8],
     journal: LentJournal<'_>,
 ) -> Answer {
-    let Lent { base, window } = memory;
-    let LentJournal { bytes, used } = journal;
-    // SAFETY: as the module says.
-    Answer(unsafe {
-        kp_run(
-            image.as_mut_ptr(),
-            image.len(),
-            time.now,
-            time.pace,
-            base,
-            window.as_mut_ptr(),
-            window.len(),
-            staging.as_mut_ptr(),
-            staging.len(),
-            bytes.as_mut_ptr(),
-            bytes.len(),
-            used,
-        )
-    })
+    timed(kp_run, image, time, memory, staging, journal)
 }
 
 /// Offers busy and deferred channels again, and runs.
@@ -249,11 +231,39 @@ pub fn service(
     staging: &mut [u8],
     journal: LentJournal<'_>,
 ) -> Answer {
+    timed(kp_service, image, time, memory, staging, journal)
+}
+
+/// What `kp_run` and `kp_service` are given.
+type Timed = unsafe extern "C" fn(
+    *mut u8,
+    usize,
+    u64,
+    u64,
+    u32,
+    *mut u8,
+    usize,
+    *mut u8,
+    usize,
+    *mut u8,
+    usize,
+    u64,
+) -> u64;
+
+/// One of the two entries that move samples.
+fn timed(
+    entry: Timed,
+    image: &mut [u8],
+    time: Time,
+    memory: Lent<'_>,
+    staging: &mut [u8],
+    journal: LentJournal<'_>,
+) -> Answer {
     let Lent { base, window } = memory;
     let LentJournal { bytes, used } = journal;
-    // SAFETY: as the module says.
+    // SAFETY: as the module says, of either entry.
     Answer(unsafe {
-        kp_service(
+        entry(
             image.as_mut_ptr(),
             image.len(),
             time.now,

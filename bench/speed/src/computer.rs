@@ -14,7 +14,7 @@ pub fn name() -> String {
     match std::env::var("KOUNPHERAY_RUNNER") {
         Ok(runner) => {
             let emulator = runner.split_whitespace().next().unwrap_or("an emulator");
-            format!("{processor}, through the emulator {emulator}: ratios, not times, count")
+            format!("{processor}, through the emulator {emulator}: no verdict on time")
         }
         Err(_) => processor,
     }

@@ -1,6 +1,6 @@
 //! Writes the recorded list: to the file named, or to standard output.
 //!
-//! cargo run --release -p beside --bin record -- recorded/answers.txt
+//! cargo run --release -p beside --bin record -- ../crates/replay/data/answers.txt
 
 use beside::call::Call;
 use beside::difference::hex;
@@ -14,6 +14,7 @@ use std::process::exit;
 const SEED: u64 = 2026;
 const RUNS: usize = 220;
 const SEQUENCES: usize = 80;
+const RINGING: usize = 60;
 const CALLS: usize = 6;
 
 fn main() {
@@ -23,7 +24,7 @@ fn main() {
     }
     let mut random = Random::new(SEED);
     let mut text = HEAD.to_string();
-    for number in 0..RUNS + SEQUENCES {
+    for number in 0..RUNS + SEQUENCES + RINGING {
         let rows = loop {
             if let Some(rows) = case(&mut random, number) {
                 break rows;
@@ -55,7 +56,9 @@ fn case(random: &mut Random, number: usize) -> Option<Vec<Row>> {
         first: random.word() as u8,
         step: random.word() as u8 | 1,
     };
-    let scene = Scene::small(random, begin.device(), begin.base, begin.window());
+    let rings = number >= RUNS + SEQUENCES;
+    let made_so = if rings { Scene::ringing } else { Scene::small };
+    let scene = made_so(random, begin.device(), begin.base, begin.window());
     let mut image = scene.device.image().to_vec();
     Oracle::settle(&mut image);
     let mut oracle = Oracle::load(&image, begin.base, &scene.window).ok()?;
@@ -69,6 +72,12 @@ fn case(random: &mut Random, number: usize) -> Option<Vec<Row>> {
         // Most cases should say what a run does, not that it does nothing.
         let told = rows.iter().filter(|row| row[0] >= 0x20).count();
         return (told > 2 || random.once_in(12)).then_some(rows);
+    }
+    if rings {
+        for ipl in [7, random.below(8) as u8, 0, 0] {
+            rows.extend(made(&mut oracle, Call::Acknowledge { ipl }, false, &mut state)?);
+        }
+        return Some(rows);
     }
     let mut made_calls = 0;
     while made_calls < CALLS {
