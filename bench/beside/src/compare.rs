@@ -9,8 +9,8 @@ use kounpheray::entries::Answer;
 use kounpheray::{Field, Journal, Record, RECORD};
 use oracle::{Oracle, Outside, Ran, IMAGE};
 
-/// The journal's length, and how much of it may be used before a new one is
-/// begun.
+/// The journal's length in a row of calls, and how much of it may be used
+/// before a new one is begun.
 pub const JOURNAL: usize = 1 << 16;
 const FULL: usize = 1 << 15;
 
@@ -26,6 +26,8 @@ pub struct Beside {
     oracle: Oracle,
     /// Whether the Rust holds the same state, to go on from.
     level_with: bool,
+    /// The journal's length, but for a call that needs a larger one.
+    room: usize,
     pub tally: Tally,
 }
 
@@ -35,7 +37,8 @@ impl Beside {
     pub fn new(mut world: World) -> Result<Beside, Outside> {
         Oracle::settle(&mut world.image);
         let oracle = Oracle::load(&world.image, world.base, &world.window)?;
-        Ok(Beside { world, oracle, level_with: true, tally: Tally::default() })
+        let room = world.journal.len();
+        Ok(Beside { world, oracle, level_with: true, room, tally: Tally::default() })
     }
 
     /// Puts another device and window beside the same Rust, with an empty
@@ -45,7 +48,7 @@ impl Beside {
         self.world.base = base;
         self.world.window.clear();
         self.world.window.extend_from_slice(window);
-        self.world.used = 0;
+        self.begin_journal();
         self.level_with = false;
         self.bring_level()
     }
@@ -53,6 +56,11 @@ impl Beside {
     /// Waits for this many memory accesses of the Rust in each call to come.
     pub fn allow(&mut self, accesses: u64) {
         self.oracle.allow(accesses);
+    }
+
+    fn begin_journal(&mut self) {
+        self.world.used = 0;
+        self.world.journal.truncate(self.room);
     }
 
     fn bring_level(&mut self) -> Result<(), Outside> {
@@ -66,9 +74,8 @@ impl Beside {
 
     /// Makes a call on both sides and compares.
     pub fn call(&mut self, call: Call) -> Result<Answer, String> {
-        if self.world.used as usize > FULL {
-            self.world.used = 0;
-            self.world.journal.truncate(JOURNAL);
+        if self.world.used as usize > FULL || self.world.journal.len() > self.room {
+            self.begin_journal();
         }
         if let Err(why) = self.bring_level() {
             self.tally.apart(format!("{why:?}"));
@@ -94,7 +101,7 @@ impl Beside {
             self.world.journal.resize(LARGE, 0);
             answer = self.world.checked(call)?;
             if answer.status() != 0 {
-                self.world.journal.truncate(JOURNAL);
+                self.world.journal.truncate(self.room);
             }
         }
         let agreed = self.ask(call, answer)?;
@@ -249,8 +256,11 @@ fn changed_fields(before: &[u8], after: &[u8]) -> Vec<Record> {
         .filter_map(|number| {
             let at = 2064 + 8 * usize::from(number);
             let (old, new) = (&before[at..at + 8], &after[at..at + 8]);
+            if old == new {
+                return None;
+            }
             let value = old.iter().fold(0, |v, byte| v << 8 | u64::from(*byte));
-            (old != new).then_some(Record::Field(Field::from_number(number)?, value))
+            Some(Record::Field(Field::from_number(number)?, value))
         })
         .collect()
 }

@@ -40,6 +40,9 @@ pub fn of_images(engine: &[u8], rust: &[u8]) -> Option<String> {
 
 /// Names the first address at which two windows differ.
 pub fn of_windows(base: u32, engine: &[u8], rust: &[u8]) -> Option<String> {
+    if engine == rust {
+        return None;
+    }
     let at = engine.iter().zip(rust).position(|(one, other)| one != other)?;
     let address = u64::from(base) + at as u64;
     Some(format!("  memory {address:08x}: engine {:02x}, Rust {:02x}\n", engine[at], rust[at]))

@@ -53,10 +53,11 @@ impl Lab {
     /// # Panics
     /// At a difference, with the case.
     pub fn call(&mut self, call: Call) {
-        let start = self.pair.world.clone();
+        let start = self.pair.world.image.clone();
         if let Err(told) = self.pair.call(call) {
-            let device = Device::from_image(&start.image);
-            panic!("the engine and the Rust differ\n{told}\nbase {:08x}\n{device:#x?}", start.base);
+            let device = Device::from_image(&start);
+            let base = self.pair.world.base;
+            panic!("the engine and the Rust differ\n{told}\nbase {base:08x}\n{device:#x?}");
         }
     }
 

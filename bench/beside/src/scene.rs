@@ -79,11 +79,8 @@ impl Scene {
             let source = random.below(64);
             let level = random.pick(&[0, 1, 2, 3, 5, 6, 7, 7, 0x0F, 0xFA]);
             scene.put(Field::SourceLevel(controller, Source::new(source as u8)), level);
-            let raised = if random.once_in(2) {
-                Field::Frc(controller)
-            } else {
-                Field::Lines(controller)
-            };
+            let raised =
+                if random.once_in(2) { Field::Frc(controller) } else { Field::Lines(controller) };
             let there = scene.device.get(raised);
             scene.put(raised, there | 1 << source);
             if !random.once_in(5) {
