@@ -109,7 +109,7 @@ abbrev pub SameSteps : Act (Unit {0}) → ℕ → ℕ → ℕ → Device → Cou
 SameSteps act time pace base d t w s j m p b used =
     go base (length s) act (worldOf d w j used) ≡ go base (length s) (runAll time pace) (turning d t w j (d .table) m p b)
 
--- a device of the declared type
+-- what undoing asks of a device, and every one of the declared type is: sound, with a table whose offsets fit a record's place
 abbrev pub Fine : Device → Type 0
 Fine d = Sound d × (length (d .table) ≤ 2 ^ 32)
 
