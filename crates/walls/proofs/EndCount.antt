@@ -1,0 +1,31 @@
+-- No invented end count. START's loop and channel 35's recurse on a number of passes; whatever other number stands there, if it is more than a
+-- journal has room for or a count holds, and whatever is done where it runs out, a call that meets its contract leaves the same. Cites `Ends`.
+-- Assumes nothing.
+use mathlib.Core.Path.{_≡_, ap, _∙_}
+use lib.ListN.{length}
+use Rattle.rules.specs.Calls.{Asked, Told, actOf, wrong, stagingAfter, worldOf, toldAfter, after}
+use Rattle.rules.specs.Carry.{go, leave, perform}
+use Rattle.rules.proofs.Each.{Proper}
+use Rattle.rules.proofs.Ends.{Limits, Enough, actOr, call-ends}
+use Rattle.walls.specs.Wrong.{Given, acts}
+
+-- what a call leaves that is not refused by 1 to 8, with other limits
+unfoldable pub limited : Limits → Asked → Given → Told
+limited o c g =
+    let u = worldOf (g .device) (g .window) (g .journal) (g .used) in
+    toldAfter (stagingAfter c (g .staging)) (g .used) (leave u (go (g .base) (length (g .staging)) (actOr o c) u))
+
+module _ (c : Asked) (g : Given) (right : wrong (g .base) (length (g .window)) (length (g .journal)) (g .used) c ≡ 0) where
+  performed : acts c g
+      ≡ toldAfter (stagingAfter c (g .staging)) (g .used) (perform (g .base) (length (g .staging)) (actOf c) (worldOf (g .device) (g .window) (g .journal) (g .used)))
+  unfolding acts after
+  performed = rw (right, after)
+
+  -- the device is of the declared type (`Each.typed-proper`)
+  pub no-end-count : (t : Told) → t ≡ acts c g → (o : Limits) → Enough o → Proper (g .device) → t ≡ limited o c g
+  unfolding perform limited
+  no-end-count t meets o enough proper =
+      let u = worldOf (g .device) (g .window) (g .journal) (g .used) in
+      meets ∙ performed
+      ∙ ap (λ x. toldAfter (stagingAfter c (g .staging)) (g .used) (leave u x))
+      (call-ends (g .base) (length (g .staging)) o enough (g .device) (g .window) (g .journal) (g .used) c proper right)

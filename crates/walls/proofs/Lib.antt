@@ -1,0 +1,9 @@
+pub mod ShutOut
+pub mod EveryCall
+pub mod Moving
+pub mod Turning
+pub mod Leaving
+pub mod Undoing
+pub mod EndCount
+pub mod Bounds
+pub mod Ringing

@@ -1,0 +1,54 @@
+-- What the examples are made of: devices, and what a call is given. Assumes nothing.
+use mathlib.Core.Bool.{false}
+use mathlib.Core.List.{List, _++_}
+use Prim.Native.Nat.{ℕ, _-_, _*_, _^_}
+use lib.Count.{trailingZeros}
+use lib.ListN.{replicate}
+use Rattle.rules.specs.declared.Device.{Device}
+use Rattle.rules.specs.declared.Tcd.{Tcd}
+use Rattle.rules.specs.Act.{acts, ERQ, KICK, PENDING}
+use Rattle.rules.specs.Bytes.{bytesRules}
+use Rattle.rules.specs.Calls.{calls, fresh}
+use Rattle.rules.specs.Carry.{carry}
+use Rattle.rules.specs.Fields.{fields, withField}
+use Rattle.rules.specs.Lines.{linesRules}
+use Rattle.rules.specs.Minor.{minor, tcdBytes}
+use Rattle.rules.specs.Registers.{registers}
+use Rattle.rules.specs.Run.{runs}
+use Rattle.rules.specs.TakeBack.{takes}
+use Rattle.rules.specs.With.{withTable}
+use Rattle.rules.specs.Words.{words}
+use Rattle.walls.specs.Wrong.{Given, wrongs}
+
+-- a descriptor that moves bytes from 0x80000000 on: attr, nbytes, counts, where to, csr; steps of the size given
+unfoldable pub moving : ℕ → ℕ → ℕ → ℕ → ℕ → ℕ → Tcd
+moving attr step nbytes count daddr csr = record {
+  saddr = 0x80000000;
+  attr = attr;
+  soff = step;
+  nbytes = nbytes;
+  slast = 0;
+  daddr = daddr;
+  citer = count;
+  doff = step;
+  dlast = 0;
+  biter = count;
+  csr = csr;
+}
+
+-- a fresh device in which one channel has this descriptor, and its KICK bit
+unfoldable pub with-channel : ℕ → Tcd → Device
+with-channel ch t = withField KICK (2 ^ ch) (withTable (fresh false) (replicate (32 * ch) 0 ++ tcdBytes t ++ replicate (2016 - 32 * ch) 0))
+
+-- and asks for that many passes: its ERQ bit and a pending count
+unfoldable pub requesting : ℕ → ℕ → Tcd → Device
+requesting ch count t = withField ERQ (2 ^ ch) (withField (PENDING ch) count (with-channel ch t))
+
+-- at base 0x80000000, with an empty journal of 32 records' room, each byte 0xEE
+unfoldable pub lent : Device → List ℕ → List ℕ → Given
+lent d window staging = record { base = 0x80000000; device = d; window = window; staging = staging; journal = replicate 512 0xEE; used = 0 }
+
+-- on an `unfolding` line: all that computes
+unfoldable pub computed : Unit {0}
+unfolding moving with-channel requesting lent wrongs trailingZeros acts bytesRules words fields carry minor runs linesRules registers takes calls
+computed = tt
