@@ -5,6 +5,7 @@ pub mod call;
 pub mod compare;
 pub mod damage;
 pub mod difference;
+pub mod document;
 pub mod lab;
 pub mod random;
 pub mod recorded;

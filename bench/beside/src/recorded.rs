@@ -1,48 +1,74 @@
-//! The recorded list: calls with the Rust's answers, in rows of 16 bytes, to
-//! be replayed where the Rust itself is not at hand. `HEAD` says what a row
-//! means; it stands at the top of the file.
+//! Lists of calls with what they answer and leave, in rows of 16 bytes, and
+//! their player. `FORMAT` says what a row means; it stands at the top of each
+//! list.
 
 use crate::call::Call;
 use crate::difference;
 use crate::world::World;
 use kounpheray::entries::Time;
-use kounpheray::Device;
+use kounpheray::{Device, Field, IMAGE};
+use std::ops::Range;
 
-pub const HEAD: &str = "\
-# Recorded answers of the Rust that was ported (docs/src over a flat memory).
-# Made by `cargo run --release -p beside --bin record`; a fixed seed, so that
-# the same sources give the same file.
+pub const FORMAT: &str = "\
 #
-# Each line below is one row of 16 bytes in hex. Numbers are big-endian; bytes
-# that are not named are 0. The first byte says what the row is.
+# A line that is empty or begins with '#' says nothing to the player. Each
+# other is one row of 16 bytes in hex. Numbers are big-endian; bytes that are
+# not named are 0. The first byte says what the row is.
+#
+# Calls are made on 25,944 bytes. All of them are compared after each call,
+# also those past what the call was lent:
+#
+#      0  the device image, as docs/ABI.md lays it out
+#   8720  room for a window of 256 bytes
+#   8976  room for staging of 512 bytes
+#   9488  room for a journal of 16,384 bytes
+#  25872  nine numbers of eight bytes: the journal's used length; how many
+#         bytes of journal, of staging and of window are lent; the window's
+#         base; the standing requests and the lines of controllers 0, 1 and 2
+#         that inputs give
 #
 #  01 A case begins: a fresh device. Byte 1: 1 where masks are ignored.
 #     Bytes 2..3: the case's number. 4..7: base. 8..11: the window's length.
-#     12, 13: a and b; window byte i is (a + b x i) mod 256.
-#  02 Set a field.   Bytes 2..3: its number. 8..15: its value.
-#  03 Set the table. Bytes 2..3: an offset. 8..15: the eight bytes there.
-#  04 Set the window. Bytes 4..7: an offset. 8..15: the eight bytes there.
+#     12, 13: a and b; byte i of the window's room is (a + b x i) mod 256.
+#     14: the byte that staging and journal are filled with. 16,000 bytes of
+#     journal and 500 of staging are lent; the other numbers are 0.
+#  02 Set eight bytes.  Bytes 4..7: their offset. 8..15: the bytes.
 #  10 Read.        Byte 1: size. 2: status. 4..7: address. 12..15: the value.
 #  11 Write.       Byte 1: size. 2: status. 4..7: address. 12..15: the value.
-#  12 Inputs, four rows. Byte 1: 0 standing, 1 to 3 lines of controllers 0 to
-#     2. Bytes 8..15: the mask. The call is made at the fourth.
-#  13 Pending.     Byte 1: channel. 12..15: the count.
+#  12 Inputs.      Byte 2: status.
+#  13 Pending.     Byte 1: channel. 2: status. 12..15: the count.
 #  14 Run.         Byte 2: status. 4..7: pace. 8..15: now.
 #  15 Service.     As run.
-#  16 Acknowledge. Byte 1: ipl. 2: level, 3: vector; both 0 if none was found.
-#  20 After the call a field differs. Bytes 2..3: its number. 8..15: its value.
-#  21 After the call the table differs. Bytes 2..3: an offset that is a
-#     multiple of 8. 8..15: the eight bytes there.
-#  22 After the call the window differs. Byte 1: how many bytes, at most 8.
-#     Bytes 4..7: an offset. From 8 on: the bytes.
+#  16 Acknowledge. Byte 1: ipl. 2: status. 6: level, 7: vector; both 0 if
+#     none was found.
+#  17 Take back.   Byte 2: status.
+#  20 After the call eight bytes differ from before it. Bytes 4..7: their
+#     offset. 8..15: the bytes.
 #
-# A call without a status is accepted. The rows 20 to 22 behind a call name
-# all that differs from before it; everything else of device and window is as
-# it was. Staging of 4,096 and a journal of 65,536 bytes are enough.
+# The rows 20 behind a call tell all that differs, but for what document 01
+# says of every call under 'Refusal numbers': staging that is zero, journal
+# bytes that are zero after a refusal or a take-back. After an accepted act
+# its records and the used length are compared only where rows tell them. An
+# accepted act is also taken back, which leaves all as before it, and made
+# again. A refusal answers the used length that was given.
 ";
 
-pub const STAGING: usize = 4096;
-pub const JOURNAL: usize = 65_536;
+/// How much of a case's journal and staging is lent if no row says otherwise.
+pub const JOURNAL: usize = 16_000;
+pub const STAGING: usize = 500;
+
+/// The rooms, and where they and the numbers begin.
+pub const WINDOW_ROOM: usize = 256;
+const STAGING_ROOM: usize = 512;
+const JOURNAL_ROOM: usize = 16_384;
+pub const WINDOW_AT: usize = IMAGE;
+const STAGING_AT: usize = WINDOW_AT + WINDOW_ROOM;
+pub const JOURNAL_AT: usize = STAGING_AT + STAGING_ROOM;
+pub const USED_AT: usize = JOURNAL_AT + JOURNAL_ROOM;
+pub const JOURNAL_LENT_AT: usize = USED_AT + 8;
+pub const STAGING_LENT_AT: usize = USED_AT + 16;
+const MASKS_AT: usize = USED_AT + 40;
+const ALL: usize = USED_AT + 72;
 
 pub type Row = [u8; 16];
 
@@ -55,6 +81,7 @@ pub struct Begin {
     pub length: u32,
     pub first: u8,
     pub step: u8,
+    pub filled: u8,
 }
 
 impl Begin {
@@ -67,6 +94,7 @@ impl Begin {
         row[8..12].copy_from_slice(&self.length.to_be_bytes());
         row[12] = self.first;
         row[13] = self.step;
+        row[14] = self.filled;
         row
     }
 
@@ -78,12 +106,18 @@ impl Begin {
             length: number(&row[8..12]) as u32,
             first: row[12],
             step: row[13],
+            filled: row[14],
         }
     }
 
+    /// The window's room, of which the window is the first part.
+    pub fn room(&self) -> Vec<u8> {
+        let (first, step) = (usize::from(self.first), usize::from(self.step));
+        (0..WINDOW_ROOM).map(|at| (first + step * at) as u8).collect()
+    }
+
     pub fn window(&self) -> Vec<u8> {
-        let (first, step) = (u32::from(self.first), u32::from(self.step));
-        (0..self.length).map(|at| first.wrapping_add(step.wrapping_mul(at)) as u8).collect()
+        self.room()[..self.length as usize].to_vec()
     }
 
     pub fn device(&self) -> Device {
@@ -99,44 +133,40 @@ fn number(bytes: &[u8]) -> u64 {
     bytes.iter().fold(0, |value, byte| value << 8 | u64::from(*byte))
 }
 
-fn row(kind: u8, one: u8, two: u16, four: u32, eight: u64) -> Row {
+fn row(kind: u8, one: u8, status: u8, four: u32, eight: u64) -> Row {
     let mut row = [0; 16];
     row[0] = kind;
     row[1] = one;
-    row[2..4].copy_from_slice(&two.to_be_bytes());
+    row[2] = status;
     row[4..8].copy_from_slice(&four.to_be_bytes());
     row[8..16].copy_from_slice(&eight.to_be_bytes());
     row
 }
 
-/// The rows that lead from one state to another, set (02 to 04) or told (20
-/// to 22): the fields, the table, the window.
+/// A row that sets eight bytes (02) or tells them (20).
+pub fn eight_bytes(told: bool, at: usize, eight: u64) -> Row {
+    row(if told { 0x20 } else { 0x02 }, 0, 0, at as u32, eight)
+}
+
+/// Where a field stands.
+pub fn place(field: Field) -> usize {
+    2064 + 8 * usize::from(field.number())
+}
+
+/// The rows that lead from one image and window to another.
 pub fn changes(told: bool, before: (&[u8], &[u8]), after: (&[u8], &[u8])) -> Vec<Row> {
-    let kind = if told { 0x20 } else { 0x02 };
     let mut rows = Vec::new();
-    for field in 0..768u16 {
-        let at = 2064 + 8 * usize::from(field);
-        if before.0[at..at + 8] != after.0[at..at + 8] {
-            rows.push(row(kind, 0, field, 0, number(&after.0[at..at + 8])));
-        }
-    }
-    for at in (0..2048).step_by(8) {
-        if before.0[at..at + 8] != after.0[at..at + 8] {
-            rows.push(row(kind + 1, 0, at as u16, 0, number(&after.0[at..at + 8])));
-        }
-    }
-    for (n, (old, new)) in before.1.chunks(8).zip(after.1.chunks(8)).enumerate() {
-        if old != new {
-            let length = if told { new.len() as u8 } else { 0 };
-            let mut eight = [0; 8];
-            eight[..new.len()].copy_from_slice(new);
-            rows.push(row(kind + 2, length, 0, 8 * n as u32, u64::from_be_bytes(eight)));
+    for (first, old, new) in [(0, before.0, after.0), (WINDOW_AT, before.1, after.1)] {
+        for (n, (old, new)) in old.chunks(8).zip(new.chunks(8)).enumerate() {
+            if old != new {
+                rows.push(eight_bytes(told, first + 8 * n, number(new)));
+            }
         }
     }
     rows
 }
 
-/// What the Rust answered.
+/// What a call answers, where that is told.
 #[derive(Clone, Copy, Debug, Default, PartialEq, Eq)]
 pub struct Answered {
     pub status: u8,
@@ -147,37 +177,58 @@ pub struct Answered {
 
 /// The rows of one call with its answer.
 pub fn call_rows(call: Call, answered: Answered) -> Vec<Row> {
-    let status = u16::from(answered.status) << 8;
-    let time = |kind, time: Time| vec![row(kind, 0, status, time.pace as u32, time.now)];
-    match call {
+    let status = answered.status;
+    let time = |kind, time: Time| row(kind, 0, status, time.pace as u32, time.now);
+    let of_call = match call {
         Call::Read { address, size } => {
-            vec![row(0x10, size as u8, status, address, u64::from(answered.value))]
+            row(0x10, size as u8, status, address, u64::from(answered.value))
         }
         Call::Write { address, size, value } => {
-            vec![row(0x11, size as u8, status, address, u64::from(value))]
+            row(0x11, size as u8, status, address, u64::from(value))
         }
-        Call::Inputs { standing, lines } => [standing, lines[0], lines[1], lines[2]]
-            .into_iter()
-            .enumerate()
-            .map(|(n, mask)| row(0x12, n as u8, 0, 0, mask))
-            .collect(),
-        Call::Pending { channel, count } => {
-            vec![row(0x13, channel as u8, 0, 0, u64::from(count))]
-        }
+        Call::Inputs { .. } => row(0x12, 0, status, 0, 0),
+        Call::Pending { channel, count } => row(0x13, channel as u8, status, 0, u64::from(count)),
         Call::Run(when) => time(0x14, when),
         Call::Service(when) => time(0x15, when),
         Call::Acknowledge { ipl } => {
-            let found = u16::from(answered.level) << 8 | u16::from(answered.vector);
-            vec![row(0x16, ipl, found, 0, 0)]
+            let found = u32::from(answered.level) << 8 | u32::from(answered.vector);
+            row(0x16, ipl, status, found, 0)
         }
-        Call::TakeBack => Vec::new(),
+        Call::TakeBack => row(0x17, 0, status, 0, 0),
+    };
+    let mut rows = Vec::new();
+    if let Call::Inputs { standing, lines } = call {
+        for (n, mask) in [standing, lines[0], lines[1], lines[2]].into_iter().enumerate() {
+            rows.push(eight_bytes(false, MASKS_AT + 8 * n, mask));
+        }
+    }
+    rows.push(of_call);
+    rows
+}
+
+/// Rows as lines of a list.
+pub fn lines(rows: &[Row]) -> String {
+    rows.iter().map(|row| difference::hex(row) + "\n").collect()
+}
+
+/// Writes a list to the file that the first argument names, or to standard
+/// output.
+pub fn written(text: &str) {
+    match std::env::args().nth(1) {
+        None => print!("{text}"),
+        Some(path) => {
+            if let Err(why) = std::fs::write(&path, text) {
+                eprintln!("{path}: {why}");
+                std::process::exit(1);
+            }
+        }
     }
 }
 
 /// The rows of a file.
 pub fn read(text: &str) -> Vec<Row> {
     text.lines()
-        .filter(|line| !line.starts_with('#'))
+        .filter(|line| !line.is_empty() && !line.starts_with('#'))
         .map(|line| {
             assert_eq!(line.len(), 32, "a row has 32 digits: {line}");
             let mut row = [0; 16];
@@ -189,120 +240,191 @@ pub fn read(text: &str) -> Vec<Row> {
         .collect()
 }
 
-/// Replays a list on the engine; answers how many cases and calls it had.
-///
-/// # Panics
-/// At the first answer or state that is not the recorded one.
-pub fn replay(rows: &[Row]) -> (u64, u64) {
-    let mut player = Player::default();
+/// Plays a list on the engine; answers how many cases and calls it had, or
+/// says of the first answer or byte that is not as told in which case it is.
+pub fn play(rows: &[Row]) -> Result<(u64, u64), String> {
+    let mut player = Player { is: vec![0; ALL], told: None, case: 0, cases: 0, calls: 0 };
     for row in rows {
-        player.row(row);
+        player.row(row).map_err(|told| format!("case {}: {told}", player.case))?;
     }
-    player.compare();
-    (player.cases, player.calls)
+    player.compare().map_err(|told| format!("case {}: {told}", player.case))?;
+    Ok((player.cases, player.calls))
 }
 
-#[derive(Default)]
+/// An act that was accepted is taken back, which leaves all as before it but
+/// for the journal's unused room, and made again, which leaves all as it did.
+fn taken_back_and_made_again(before: &World, after: &World, call: Call) -> Result<(), String> {
+    let mut world = after.clone();
+    let answer = world.checked(Call::TakeBack)?;
+    let used = before.used as usize;
+    let as_before = answer.status() == 0
+        && world.used == before.used
+        && world.image == before.image
+        && world.window == before.window
+        && world.journal[..used] == before.journal[..used];
+    if !as_before {
+        return Err(format!("{call:?}, taken back, leaves something else than stood before"));
+    }
+    world.staging.clone_from(&before.staging);
+    world.checked(call)?;
+    if world != *after {
+        return Err(format!("{call:?}, taken back and made again, leaves something else"));
+    }
+    Ok(())
+}
+
+/// `is`: the bytes that calls are made on. `told`: what they should be after
+/// the last call.
 struct Player {
-    world: Option<World>,
-    /// What image and window should be after the last call.
-    expected: (Vec<u8>, Vec<u8>),
-    masks: [u64; 4],
+    is: Vec<u8>,
+    told: Option<Vec<u8>>,
     case: u16,
     cases: u64,
     calls: u64,
 }
 
 impl Player {
-    fn row(&mut self, row: &Row) {
-        let eight = &row[8..16];
-        let place = usize::from(row[2]) << 8 | usize::from(row[3]);
-        let offset = number(&row[4..8]) as usize;
+    fn row(&mut self, row: &Row) -> Result<(), String> {
+        if row[0] == 0x20 {
+            let told = self.told.as_mut().ok_or("no call stands before what it left")?;
+            return lay(told, row);
+        }
+        self.compare()?;
         match row[0] {
             0x01 => self.begin(&Begin::from_row(row)),
-            0x02 => self.world().image[2064 + 8 * place..2072 + 8 * place].copy_from_slice(eight),
-            0x03 => self.world().image[place..place + 8].copy_from_slice(eight),
-            0x04 => self.world().window[offset..offset + 8].copy_from_slice(eight),
-            0x20 => self.expected.0[2064 + 8 * place..2072 + 8 * place].copy_from_slice(eight),
-            0x21 => self.expected.0[place..place + 8].copy_from_slice(eight),
-            0x22 => {
-                let length = usize::from(row[1]);
-                self.expected.1[offset..offset + length].copy_from_slice(&eight[..length]);
-            }
+            0x02 => lay(&mut self.is, row),
             _ => self.call(row),
         }
     }
 
-    fn world(&mut self) -> &mut World {
-        self.world.as_mut().expect("a case has begun")
-    }
-
-    fn begin(&mut self, begin: &Begin) {
-        self.compare();
-        self.expected = (Vec::new(), Vec::new());
+    fn begin(&mut self, begin: &Begin) -> Result<(), String> {
+        if begin.length as usize > WINDOW_ROOM {
+            return Err("a window that is longer than its room".to_string());
+        }
         self.case = begin.number;
         self.cases += 1;
-        self.world = Some(World {
-            image: begin.device().image().to_vec(),
-            base: begin.base,
-            window: begin.window(),
-            staging: vec![0; STAGING],
-            journal: vec![0; JOURNAL],
-            used: 0,
-        });
+        self.is.fill(0);
+        self.is[..IMAGE].copy_from_slice(begin.device().image());
+        self.is[WINDOW_AT..STAGING_AT].copy_from_slice(&begin.room());
+        self.is[STAGING_AT..USED_AT].fill(begin.filled);
+        let numbers = [JOURNAL as u64, STAGING as u64, begin.length.into(), begin.base.into()];
+        for (n, number) in numbers.into_iter().enumerate() {
+            self.put(USED_AT + 8 + 8 * n, number);
+        }
+        Ok(())
     }
 
-    fn call(&mut self, row: &Row) {
+    fn put(&mut self, at: usize, value: u64) {
+        self.is[at..at + 8].copy_from_slice(&value.to_be_bytes());
+    }
+
+    /// The number with this place among the nine.
+    fn given(&self, n: usize) -> u64 {
+        number(&self.is[USED_AT + 8 * n..USED_AT + 8 * n + 8])
+    }
+
+    /// So many bytes of a room as its number says.
+    fn lent(&self, room: Range<usize>, n: usize) -> Result<Vec<u8>, String> {
+        let all = &self.is[room];
+        let lent = all.get(..self.given(n) as usize).ok_or("more is lent than there is room")?;
+        Ok(lent.to_vec())
+    }
+
+    /// What a call is lent.
+    fn world(&self) -> Result<World, String> {
+        Ok(World {
+            image: self.is[..IMAGE].to_vec(),
+            base: self.given(4) as u32,
+            window: self.lent(WINDOW_AT..STAGING_AT, 3)?,
+            staging: self.lent(STAGING_AT..JOURNAL_AT, 2)?,
+            journal: self.lent(JOURNAL_AT..USED_AT, 1)?,
+            used: self.given(0),
+        })
+    }
+
+    fn call_of(&self, row: &Row) -> Result<Call, String> {
         let (four, eight) = (number(&row[4..8]) as u32, number(&row[8..16]));
         let (address, size, value) = (four, u32::from(row[1]), eight as u32);
         let time = Time { now: eight, pace: u64::from(four) };
-        let call = match row[0] {
+        Ok(match row[0] {
             0x10 => Call::Read { address, size },
             0x11 => Call::Write { address, size, value },
-            0x12 => {
-                self.masks[usize::from(row[1])] = eight;
-                if row[1] < 3 {
-                    return;
-                }
-                let [standing, lines @ ..] = self.masks;
-                Call::Inputs { standing, lines }
-            }
+            0x12 => Call::Inputs {
+                standing: self.given(5),
+                lines: [self.given(6), self.given(7), self.given(8)],
+            },
             0x13 => Call::Pending { channel: size, count: value },
             0x14 => Call::Run(time),
             0x15 => Call::Service(time),
             0x16 => Call::Acknowledge { ipl: row[1] },
-            kind => panic!("case {}: no row begins with {kind:02x}", self.case),
-        };
-        self.compare();
-        self.calls += 1;
-        let case = self.case;
-        let world = self.world();
-        world.used = 0;
-        let before = (world.image.clone(), world.window.clone());
-        let answer = world.call(call);
-        match call {
-            Call::Acknowledge { .. } => {
-                let taken = answer.taken().map_or((0, 0), |taken| (taken.level, taken.vector));
-                assert_eq!((answer.status(), taken), (0, (row[2], row[3])), "case {case}");
-            }
-            _ => assert_eq!(answer.status(), row[2], "case {case}: {call:?}"),
-        }
-        if let (Call::Read { .. }, 0) = (call, row[2]) {
-            assert_eq!(answer.low(), value, "case {case}: {call:?}");
-        }
-        self.expected = before;
+            0x17 => Call::TakeBack,
+            kind => return Err(format!("no row begins with {kind:02x}")),
+        })
     }
 
-    /// Holds the state to what the rows behind the last call told.
-    fn compare(&self) {
-        let Some(world) = &self.world else { return };
-        if self.expected.0.is_empty() {
-            return;
+    /// Makes a call. What it leaves of staging and journal is held to document
+    /// 01 by `World::checked`; image, window and used length are told.
+    fn call(&mut self, row: &Row) -> Result<(), String> {
+        let call = self.call_of(row)?;
+        self.calls += 1;
+        let before = self.world()?;
+        let mut world = before.clone();
+        let answer = world.checked(call)?;
+        let found =
+            answer.taken().map_or(0, |taken| u64::from(taken.level) << 8 | u64::from(taken.vector));
+        let value = if let Call::Read { .. } = call { u64::from(answer.low()) } else { 0 };
+        let is = (u64::from(answer.status()), found, value);
+        let told = match call {
+            Call::Read { .. } => (row[2].into(), 0, number(&row[12..16])),
+            Call::Acknowledge { .. } => (row[2].into(), number(&row[4..8]), 0),
+            _ => (row[2].into(), 0, 0),
+        };
+        if is != told {
+            return Err(format!("{call:x?} answers {is:x?}, and {told:x?} is told"));
         }
-        let told = difference::of_images(&world.image, &self.expected.0)
-            .or_else(|| difference::of_windows(world.base, &world.window, &self.expected.1));
-        if let Some(told) = told {
-            panic!("case {} of the recorded list:\n{told}", self.case);
+        if call.is_act() && answer.status() == 0 {
+            taken_back_and_made_again(&before, &world, call)?;
+        }
+        self.keep(&world);
+        let mut told = self.is.clone();
+        told[..IMAGE].copy_from_slice(&before.image);
+        told[WINDOW_AT..WINDOW_AT + before.window.len()].copy_from_slice(&before.window);
+        if !call.is_act() {
+            told[USED_AT..USED_AT + 8].copy_from_slice(&before.used.to_be_bytes());
+        }
+        self.told = Some(told);
+        Ok(())
+    }
+
+    /// Puts what a call left in its place.
+    fn keep(&mut self, world: &World) {
+        let World { image, window, staging, journal, .. } = world;
+        let parts = [(0, image), (WINDOW_AT, window), (STAGING_AT, staging), (JOURNAL_AT, journal)];
+        for (at, part) in parts {
+            self.is[at..at + part.len()].copy_from_slice(part);
+        }
+        self.put(USED_AT, world.used);
+    }
+
+    /// Holds the bytes to what the rows behind the last call told.
+    fn compare(&mut self) -> Result<(), String> {
+        let Some(told) = self.told.take() else { return Ok(()) };
+        if let Some(what) = difference::of_images(&self.is[..IMAGE], &told[..IMAGE]) {
+            return Err(what);
+        }
+        match self.is.iter().zip(&told).position(|(is, told)| is != told) {
+            None => Ok(()),
+            Some(at) => {
+                Err(format!("byte {at} is {:02x}, and {:02x} is told", self.is[at], told[at]))
+            }
         }
     }
+}
+
+/// A row's last eight bytes, laid over those at its offset.
+fn lay(bytes: &mut [u8], row: &Row) -> Result<(), String> {
+    let at = number(&row[4..8]) as usize;
+    let there = bytes.get_mut(at..at + 8).ok_or_else(|| format!("there is no byte {at}"))?;
+    there.copy_from_slice(&row[8..16]);
+    Ok(())
 }

@@ -1,15 +1,21 @@
-//! Writes the recorded list: to the file named, or to standard output.
+//! Writes the list of the Rust's answers: to the file named, or to standard
+//! output.
 //!
-//! cargo run --release -p beside --bin record -- ../crates/replay/data/answers.txt
+//! cargo run --release -p beside --bin record -- beside/lists/answers.txt
 
 use beside::call::Call;
-use beside::difference::hex;
 use beside::random::Random;
-use beside::recorded::{call_rows, changes, Answered, Begin, Row, HEAD, JOURNAL, STAGING};
+use beside::recorded::{call_rows, changes, lines, written, Answered, Begin, Row, FORMAT, JOURNAL};
 use beside::scene::Scene;
 use kounpheray::Device;
 use oracle::{Oracle, Ran, IMAGE};
 use std::process::exit;
+
+const HEAD: &str = "\
+# Answers of the Rust that was ported (docs/src over a flat memory), recorded
+# by `cargo run --release -p beside --bin record`; a fixed seed, so that the
+# same sources give the same file.
+";
 
 const SEED: u64 = 2026;
 const RUNS: usize = 220;
@@ -17,33 +23,25 @@ const SEQUENCES: usize = 80;
 const RINGING: usize = 60;
 const CALLS: usize = 6;
 
+/// The most stores of a recorded run, so that its records fit the journal.
+const STORES: usize = 256;
+
 fn main() {
     if !oracle::AVAILABLE {
         eprintln!("record: the Rust sources were not there when this was built (KOUNPHERAY_RUST)");
         exit(1);
     }
     let mut random = Random::new(SEED);
-    let mut text = HEAD.to_string();
+    let mut text = format!("{HEAD}{FORMAT}");
     for number in 0..RUNS + SEQUENCES + RINGING {
         let rows = loop {
             if let Some(rows) = case(&mut random, number) {
                 break rows;
             }
         };
-        for row in rows {
-            text += &hex(&row);
-            text.push('\n');
-        }
+        text += &lines(&rows);
     }
-    match std::env::args().nth(1) {
-        None => print!("{text}"),
-        Some(path) => {
-            if let Err(why) = std::fs::write(&path, text) {
-                eprintln!("record: {path}: {why}");
-                exit(1);
-            }
-        }
-    }
+    written(&text);
 }
 
 /// A case, unless it leaves the claimed domain or says too little.
@@ -55,6 +53,7 @@ fn case(random: &mut Random, number: usize) -> Option<Vec<Row>> {
         length: random.pick(&[48, 64, 96, 128]),
         first: random.word() as u8,
         step: random.word() as u8 | 1,
+        filled: 0xEE,
     };
     let rings = number >= RUNS + SEQUENCES;
     let made_so = if rings { Scene::ringing } else { Scene::small };
@@ -127,7 +126,7 @@ fn made(
         }
         Call::TakeBack => return None,
     }
-    if call.moves() && oracle.stores().len() > STAGING / 16 {
+    if call.moves() && oracle.stores().len() > STORES {
         return None;
     }
     let mut rows = call_rows(call, answered);
