@@ -1,22 +1,20 @@
 -- The laws that the proofs of this crate cite: a spot and its field, the bits of a value, a controller's bounds. Assumes nothing.
-use mathlib.Core.Bool.{Bool, true, false}
+use mathlib.Core.Bool.{true, false}
 use mathlib.Core.List.{List, [], _∷_}
 use mathlib.Core.Option.{Option, none, some}
 use mathlib.Core.Path.{_≡_, refl, sym, ap, _∙_, subst}
-use Prim.Native.Nat.{ℕ, zero, suc, _+_, _*_, _/_, _%_, _^_, _≤_, _<_}
+use Prim.Native.Nat.{ℕ, zero, suc, _≤_, _<_}
 use native.Mathlib.Omega.{arith}
-use native.Mathlib.Nat.{div-eq-of-lt, mod-lt}
-use borrow.Author.Tests.{ltb-true, ltb-false, lt-ltb, leb-true, eq-eqb, ne-eqb}
-use lib.Dec.{eqb, leb, ltb, lit≤}
+use borrow.Author.Tests.{ltb-true, leb-true}
+use lib.Dec.{leb, ltb, lit≤}
 use lib.ListN.{length, getD, drop, List·getD-append}
-use lib.Pow.{pow-pos, split}
 use Rattle.rules.specs.Act.{Field, CR, ERQ, EEI, INT, ERR, KICK, DEFERRED, DEADLINE, LEVEL, STANDING, MASKS, FORCED, LINES, CONFIG, BUSY, MAJORS, PENDING, SOURCE, TAKEN}
-use Rattle.rules.specs.Fields.{joined, bitsOf, ofController, partsOf, controller, withSome, withNumber, fieldAt, fitsSome, fieldsOf}
+use Rattle.rules.specs.Fields.{joined, bitsOf, ofController, partsOf, controller, withSome, withNumber, fieldAt, fitsSome}
 use Rattle.rules.specs.declared.Device.{Device}
 use Rattle.rules.proofs.FieldLaws.{Sound, sized, holds-fits, bitParts, fieldBits, Agrees}
-use Rattle.rules.proofs.Numbers.{agrees-at, number-holds, number-empty}
+use Rattle.rules.proofs.Numbers.{agrees-at}
 use Rattle.device.specs.declared.Spot.{Spot}
-use Rattle.device.specs.Spots.{Fits, Found, named, Inside, bitsSome, bitsAt, holdsSome}
+use Rattle.device.specs.Spots.{Fits, Found, named, Inside, bitsSome, bitsAt}
 
 -- ---- a controller
 
@@ -55,13 +53,6 @@ module _ {n : ℕ} {s t : Spot} (p : Found n s) (e : s ≡ t) where
 
   pub found-puts : (v : ℕ) (d : Device) {r : Device} → r ≡ withSome (named t) v d → r ≡ withNumber n v d
   found-puts v d h = h ∙ ap (λ o. withSome o v d) (found .name)
-
-  pub found-reads : (d : Device) → Sound d → {x : ℕ} → x ≡ holdsSome (named t) d → x ≡ getD (fieldsOf d) n 0
-  found-reads d sound h = h ∙ ap (λ o. holdsSome o d) (found .name) ∙ reads (fieldAt n) refl
-    where
-      reads : (o : Option Field) → fieldAt n ≡ o → holdsSome o d ≡ getD (fieldsOf d) n 0
-      reads none q = sym (number-empty d sound n q)
-      reads (some f) q = sym (number-holds d sound n f q)
 
 -- ---- a value's bits
 
@@ -118,19 +109,6 @@ own-bits c (suc (suc zero)) h = refl
 own-bits c (suc (suc (suc zero))) h = refl
 own-bits c (suc (suc (suc (suc k)))) h = absurd (omega arith)
 
--- below 2 ^ b: nothing is left above b bits
-cut-off : (v b : ℕ) → eqb (v / 2 ^ b) 0 ≡ ltb v (2 ^ b)
-cut-off v b = by (ltb v (2 ^ b)) refl
-  where
-    by : (t : Bool) → ltb v (2 ^ b) ≡ t → eqb (v / 2 ^ b) 0 ≡ t
-    by true q = eq-eqb (v / 2 ^ b) 0 (div-eq-of-lt (ltb-true v (2 ^ b) q))
-    by false q = ne-eqb (v / 2 ^ b) 0 (λ e. never (v / 2 ^ b) (v % 2 ^ b) e (split v b) (mod-lt v (pow-pos b)))
-      where
-        never : (x y : ℕ) → x ≡ 0 → x * 2 ^ b + y ≡ v → y < 2 ^ b → ⊥
-        never x y e f g =
-            let h : 0 * 2 ^ b + y ≡ v = rw e at f in
-            omega (arith, h, ltb-false v (2 ^ b) q)
-
 module _ (n v : ℕ) {b : ℕ} (e : b ≡ bitsAt n) where
   pub fits-none : b ≡ 0 → false ≡ fitsSome (fieldAt n) v
   fits-none z = by (fieldAt n) (sym e ∙ z)
@@ -138,20 +116,6 @@ module _ (n v : ℕ) {b : ℕ} (e : b ≡ bitsAt n) where
       by : (o : Option Field) → bitsSome o ≡ 0 → false ≡ fitsSome o v
       by none q = refl
       by (some f) q = absurd (omega (arith, ltb-true 0 (bitsOf f) (some-to-64 f .0)))
-
-  pub fits-all : b ≡ 64 → v < 2 ^ 64 → true ≡ fitsSome (fieldAt n) v
-  fits-all z l = by (fieldAt n) (sym e ∙ z)
-    where
-      by : (o : Option Field) → bitsSome o ≡ 64 → true ≡ fitsSome o v
-      by none q = absurd (omega arith)
-      by (some f) q = sym (lt-ltb v (2 ^ bitsOf f) (rw q l))
-
-  pub fits-some : (b ≡ 0 → ⊥) → eqb (v / 2 ^ b) 0 ≡ fitsSome (fieldAt n) v
-  fits-some z = rw e (by (fieldAt n) (λ q. z (e ∙ q)))
-    where
-      by : (o : Option Field) → (bitsSome o ≡ 0 → ⊥) → eqb (v / 2 ^ bitsSome o) 0 ≡ fitsSome o v
-      by none q = absurd (q refl)
-      by (some f) q = cut-off v (bitsOf f)
 
 -- the last number of a match
 pub past : (m n : ℕ) → m ≤ n → (n ≡ m → ⊥) → suc m ≤ n

@@ -5,9 +5,8 @@ use Prim.Native.Nat.{ℕ, _^_, _<_}
 use lib.ListN.{length}
 use Rattle.rules.specs.Act.{Field, BUSY, MAJORS, PENDING, SOURCE, TAKEN}
 use Rattle.rules.specs.Bytes.{Bytes}
-use Rattle.rules.specs.Fields.{bitsOf, holds, ofController, fieldAt}
+use Rattle.rules.specs.Fields.{bitsOf, ofController, fieldAt}
 use Rattle.rules.specs.declared.Controller.{Controller}
-use Rattle.rules.specs.declared.Device.{Device}
 use Rattle.device.specs.declared.Spot.{Spot}
 use Rattle.device.specs.declared.Spot.the-variants.{Nowhere, Scalar, Own, Busy, Majors, Pending, Source, Taken}
 
@@ -45,11 +44,6 @@ bitsSome (some f) = bitsOf f
 
 abbrev pub bitsAt : ℕ → ℕ
 bitsAt n = bitsSome (fieldAt n)
-
--- what a device holds in a field; 0 where there is none
-abbrev pub holdsSome : Option Field → Device → ℕ
-holdsSome none d = 0
-holdsSome (some f) d = holds f d
 
 -- the bounds of a controller's numbers, and the length of its levels
 pub record Fits (k : Controller) : Type 0 where

@@ -5,11 +5,10 @@ use rules::Device;
 ghost use mathlib.Core.Path.{_≡_};
 ghost use mathlib.Core.Bool.{true};
 ghost use Prim.Native.Nat.{_<_, _^_};
-ghost use lib.ListN.{getD};
 ghost use Rattle.rules.specs.Act.{MASKS, FORCED, LINES, CONFIG, BUSY, MAJORS, PENDING, SOURCE, TAKEN};
-ghost use Rattle.rules.specs.Fields.{controller, holds, withField, withNumber, bitsOf, ofController, fieldAt, fitsSome, fieldsOf};
+ghost use Rattle.rules.specs.Fields.{controller, withField, withNumber, bitsOf, ofController, fieldAt, fitsSome};
 ghost use Rattle.rules.specs.Calls.{fresh, freshController};
-ghost use Rattle.device.specs.Spots.{Fits, Found, bitsAt, holdsSome};
+ghost use Rattle.device.specs.Spots.{Fits, Found, bitsAt};
 
 // ---- "A fresh device is zero in every field, except masks (all ones) and deadline (2^64 - 1)."
 
@@ -107,14 +106,6 @@ pub fn with_source(d: Device, c: usize, s: usize, v: u8) -> Device
     e
 }
 
-pub fn source_at(d: Device, c: usize, s: usize) -> u8
-    requires { ⌜ (c < 3) × (s < 64) ⌝ }
-    ensures { λ r. ⌜ r ≡ holds (SOURCE c s) d ⌝ }
-{
-    let k = d.controllers[c];
-    k.levels[s]
-}
-
 // ---- one element of the other arrays
 
 pub fn with_busy(d: Device, ch: usize, v: u64) -> Device
@@ -151,34 +142,6 @@ pub fn with_taken(d: Device, i: usize, v: u64) -> Device
     let mut e = d;
     e.taken[i] = v;
     e
-}
-
-pub fn busy_at(d: Device, ch: usize) -> u64
-    requires { ⌜ ch < 64 ⌝ }
-    ensures { λ r. ⌜ r ≡ holds (BUSY ch) d ⌝ }
-{
-    d.busy[ch]
-}
-
-pub fn majors_at(d: Device, ch: usize) -> u64
-    requires { ⌜ ch < 64 ⌝ }
-    ensures { λ r. ⌜ r ≡ holds (MAJORS ch) d ⌝ }
-{
-    d.majors[ch]
-}
-
-pub fn pending_at(d: Device, ch: usize) -> u32
-    requires { ⌜ ch < 64 ⌝ }
-    ensures { λ r. ⌜ r ≡ holds (PENDING ch) d ⌝ }
-{
-    d.pending[ch]
-}
-
-pub fn taken_at(d: Device, i: usize) -> u64
-    requires { ⌜ i < 192 ⌝ }
-    ensures { λ r. ⌜ r ≡ holds (TAKEN i) d ⌝ }
-{
-    d.taken[i]
 }
 
 // ---- by number
@@ -251,68 +214,6 @@ pub fn field_bits(n: usize) -> u32
         Spot::Pending(_) => 32,
         Spot::Source(_, _) => 8,
         Spot::Taken(_) => 64,
-    }
-}
-
-// There is a field of that number, and it can hold `v`.
-pub fn fits_field(n: usize, v: u64) -> bool
-    ensures { λ r. ⌜ r ≡ fitsSome (fieldAt n) v ⌝ }
-{
-    let bits = field_bits(n);
-    if bits == 0 {
-        return false;
-    }
-    if bits == 64 {
-        return true;
-    }
-    v >> bits == 0
-}
-
-fn scalar_at(d: Device, n: usize) -> u64
-    requires { ⌜ n < 10 ⌝ }
-    ensures { λ r. ⌜ r ≡ holdsSome (fieldAt n) d ⌝ }
-{
-    match n {
-        0 => d.cr as u64,
-        1 => d.erq,
-        2 => d.eei,
-        3 => d.int,
-        4 => d.err,
-        5 => d.kick,
-        6 => d.deferred,
-        7 => d.deadline,
-        8 => d.level as u64,
-        _ => d.standing,
-    }
-}
-
-fn own_at(d: Device, c: usize, k: usize) -> u64
-    requires { ⌜ (c < 3) × (k < 4) ⌝ }
-    ensures { λ r. ⌜ r ≡ holds (ofController k c) d ⌝ }
-{
-    let own = controller_at(d, c);
-    match k {
-        0 => own.masks,
-        1 => own.forced,
-        2 => own.lines,
-        _ => own.config as u64,
-    }
-}
-
-// What the field of a number holds; 0 where there is no such field.
-pub fn field_at(d: Device, n: usize) -> u64
-    ensures { λ r. ⌜ r ≡ getD (fieldsOf d) n 0 ⌝ }
-{
-    let spot = spot_of(n);
-    match spot {
-        Spot::Nowhere => 0,
-        Spot::Scalar(i) => scalar_at(d, i),
-        Spot::Own(c, k) => own_at(d, c, k),
-        Spot::Busy(ch) => busy_at(d, ch),
-        Spot::Majors(ch) => majors_at(d, ch),
-        Spot::Pending(ch) => pending_at(d, ch) as u64,
-        Spot::Source(c, s) => source_at(d, c, s) as u64,
-        Spot::Taken(i) => taken_at(d, i),
     }
 }
 
