@@ -77,9 +77,9 @@ pub unit-by-unit : windowOf (runs (0, 0) (lent (with-channel 0 (moving 0 1 8 1 0
 unfolding computed sixteen
 unit-by-unit = refl
 
--- unequal sizes: all is read first
-pub all-read-first : windowOf (runs (0, 0) (lent (with-channel 0 (moving 0x0001 2 4 1 0x80000001 1)) sixteen (replicate 4 0)))
-    ≡ 1 ∷ 1 ∷ 3 ∷ 5 ∷ 7 ∷ 6 ∷ 7 ∷ 8 ∷ 9 ∷ 10 ∷ 11 ∷ 12 ∷ 13 ∷ 14 ∷ 15 ∷ 16 ∷ []
+-- unequal sizes: all is read before the first halfword is written over what is still to be read
+pub all-read-first : windowOf (runs (0, 0) (lent (with-channel 0 (moving 0x0001 1 4 1 0x80000001 1)) sixteen (replicate 4 0)))
+    ≡ 1 ∷ 1 ∷ 3 ∷ 4 ∷ 5 ∷ 6 ∷ 7 ∷ 8 ∷ 9 ∷ 10 ∷ 11 ∷ 12 ∷ 13 ∷ 14 ∷ 15 ∷ 16 ∷ []
 unfolding computed sixteen
 all-read-first = refl
 
