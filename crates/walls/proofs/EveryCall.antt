@@ -1,19 +1,21 @@
--- Every call has a wall (`ShutOut` says what it shuts out), and the read one of its own. By computation. Assumes nothing.
-use mathlib.Core.Bool.{false}
-use mathlib.Core.List.{[], _++_}
+-- Every act and the take-back have a wall (`ShutOut` says what it shuts out), the read two theorems of its own; and a fresh device. By
+-- computation. Assumes nothing.
+use mathlib.Core.Bool.{Bool, false}
+use mathlib.Core.List.{[], _∷_, _++_}
 use mathlib.Core.Path.{_≡_, refl, sym, ap, _∙_}
 use Prim.Native.Nat.{ℕ}
-use native.Mathlib.Omega.{arith}
-use lib.ListN.{getD}
+use borrow.Author.Tests.{eqb-false}
+use lib.ListN.{getD, replicate}
 use Rattle.rules.specs.declared.Device.{Device}
 use Rattle.rules.specs.Act.{CR, DEFERRED, KICK}
 use Rattle.rules.specs.Calls.{fresh, ToldRead, toldRead, afterRead}
 use Rattle.rules.specs.Carry.{endLine}
-use Rattle.rules.specs.Fields.{withField}
+use Rattle.rules.specs.Fields.{withField, fieldsOf}
 use Rattle.rules.proofs.Bench.{readNumber}
-use Rattle.rules.proofs.Marked.{tcd, window₀, device₀, journal₀, ran, ringing}
-use Rattle.walls.specs.Wrong.{deviceOf, windowOf, journalOf, Wall, ReadRefusesAlways, OneValue, writes, gives, counts, runs, serves, hears, takesBack}
-use Rattle.walls.specs.Examples.{moving, requesting, lent, computed}
+use Rattle.rules.proofs.CallLaws.{read-parts}
+use Rattle.rules.proofs.Marked.{tcd, window₀, device₀, ringing}
+use Rattle.walls.specs.Wrong.{Wall, ReadRefusesAlways, OneValue, writes, gives, counts, runs, serves, hears, takesBack}
+use Rattle.walls.specs.Examples.{requesting, lent, standing, computed}
 
 -- CR gets a value: one field's record and the end. A descriptor write that leaves START set: a store and KICK's record besides
 pub write-wall : Wall writes
@@ -25,8 +27,8 @@ write-wall = record {
   given₂ = lent (fresh false) [] [];
   accepted = refl;
   accepted₂ = refl;
-  differ = λ e. let h : _≡_ {A = ℕ} 32 48 = ap (λ l. getD l 3 0) e in absurd (omega (arith, h));
-  changes = λ e. let h : _≡_ {A = ℕ} 0x80 0 = ap (λ d. d .cr) e in absurd (omega (arith, h));
+  differ = λ e. eqb-false 32 48 refl (ap (λ l. getD l 3 0) e);
+  changes = λ e. eqb-false 0x80 0 refl (ap (λ d. d .cr) e);
 }
 
 -- a standing request; and masks that are as they were
@@ -39,8 +41,8 @@ inputs-wall = record {
   given₂ = lent (fresh false) [] [];
   accepted = refl;
   accepted₂ = refl;
-  differ = λ e. let h : _≡_ {A = ℕ} 32 16 = ap (λ l. getD l 3 0) e in absurd (omega (arith, h));
-  changes = λ e. let h : _≡_ {A = ℕ} 1 0 = ap (λ d. d .standing) e in absurd (omega (arith, h));
+  differ = λ e. eqb-false 32 16 refl (ap (λ l. getD l 3 0) e);
+  changes = λ e. eqb-false 1 0 refl (ap (λ d. d .standing) e);
 }
 
 -- a count of 7 for channel 63; and one of 0, as it was
@@ -53,13 +55,13 @@ pending-wall = record {
   given₂ = lent (fresh false) [] [];
   accepted = refl;
   accepted₂ = refl;
-  differ = λ e. let h : _≡_ {A = ℕ} 32 16 = ap (λ l. getD l 3 0) e in absurd (omega (arith, h));
-  changes = λ e. let h : _≡_ {A = ℕ} 7 0 = ap (λ d. getD (d .pending) 63 0) e in absurd (omega (arith, h));
+  differ = λ e. eqb-false 32 16 refl (ap (λ l. getD l 3 0) e);
+  changes = λ e. eqb-false 7 0 refl (ap (λ d. getD (d .pending) 63 0) e);
 }
 
 -- 'Run only'; and a run with nothing to do
 pub run-wall : Wall runs
-unfolding computed tcd window₀ device₀
+unfolding computed
 run-wall = record {
   first = (0, 0);
   given = lent device₀ window₀ [];
@@ -67,27 +69,27 @@ run-wall = record {
   given₂ = lent (fresh false) window₀ [];
   accepted = refl;
   accepted₂ = refl;
-  differ = λ e. let h : _≡_ {A = ℕ} 192 16 = ap (λ l. getD l 3 0) e in absurd (omega (arith, h));
-  changes = λ e. let h : _≡_ {A = ℕ} 0 1 = ap (λ d. d .kick) e in absurd (omega (arith, h));
+  differ = λ e. eqb-false 192 16 refl (ap (λ l. getD l 3 0) e);
+  changes = λ e. eqb-false 0 1 refl (ap (λ d. d .kick) e);
 }
 
 -- a deferred channel that requests is offered again, and moves a word; and a service with nothing to do
 pub service-wall : Wall serves
-unfolding computed window₀
+unfolding computed
 service-wall = record {
   first = (0, 0);
-  given = lent (withField DEFERRED 1 (withField KICK 0 (requesting 0 1 (moving 0x0202 4 4 1 0x80000004 0)))) window₀ [];
+  given = lent (withField DEFERRED 1 (withField KICK 0 (requesting 0 1 (tcd 0x0202 4 1 1 0)))) window₀ [];
   second = (0, 0);
   given₂ = lent (fresh false) window₀ [];
   accepted = refl;
   accepted₂ = refl;
-  differ = λ e. let h : _≡_ {A = ℕ} 208 16 = ap (λ l. getD l 3 0) e in absurd (omega (arith, h));
-  changes = λ e. let h : _≡_ {A = ℕ} 0 1 = ap (λ d. d .deferred) e in absurd (omega (arith, h));
+  differ = λ e. eqb-false 208 16 refl (ap (λ l. getD l 3 0) e);
+  changes = λ e. eqb-false 0 1 refl (ap (λ d. d .deferred) e);
 }
 
 -- document 01's P10: level 7, vector 255, whose taken count rises; and nothing is found
 pub acknowledge-wall : Wall hears
-unfolding computed ringing
+unfolding computed
 acknowledge-wall = record {
   first = 7;
   given = lent ringing [] [];
@@ -95,22 +97,22 @@ acknowledge-wall = record {
   given₂ = lent (fresh false) [] [];
   accepted = refl;
   accepted₂ = refl;
-  differ = λ e. let h : _≡_ {A = ℕ} 255 0 = ap (λ l. getD l 2 0) e in absurd (omega (arith, h));
-  changes = λ e. let h : _≡_ {A = ℕ} 1 0 = ap (λ d. getD (d .taken) 191 0) e in absurd (omega (arith, h));
+  differ = λ e. eqb-false 255 0 refl (ap (λ l. getD l 2 0) e);
+  changes = λ e. eqb-false 1 0 refl (ap (λ d. getD (d .taken) 191 0) e);
 }
 
 -- 'Run only' is taken back; and of two acts that changed nothing the second
 pub back-wall : Wall takesBack
-unfolding computed tcd window₀ device₀ journal₀ ran
+unfolding computed
 back-wall = record {
   first = tt;
-  given = record { base = 0x80000000; device = deviceOf ran; window = windowOf ran; staging = []; journal = journalOf ran; used = 192 };
+  given = standing;
   second = tt;
   given₂ = record { base = 0x80000000; device = fresh false; window = window₀; staging = []; journal = endLine 0 ++ endLine 0; used = 32 };
   accepted = refl;
   accepted₂ = refl;
-  differ = λ e. let h : _≡_ {A = ℕ} 0 16 = ap (λ l. getD l 3 0) e in absurd (omega (arith, h));
-  changes = λ e. let h : _≡_ {A = ℕ} 1 0 = ap (λ d. d .kick) e in absurd (omega (arith, h));
+  differ = λ e. eqb-false 0 16 refl (ap (λ l. getD l 3 0) e);
+  changes = λ e. eqb-false 1 0 refl (ap (λ d. d .kick) e);
 }
 
 -- ---- a register read: CR of two devices
@@ -119,17 +121,29 @@ unfoldable pub withCr : ℕ → Device
 withCr v = withField CR v (fresh false)
 
 module _ (program : Device → ℕ → ℕ → ToldRead)
-    (meets : (v : ℕ) → program (withCr v) 0xFC044000 4 ≡ afterRead (withCr v) 0xFC044000 4) where
-  reads-cr : (v : ℕ) → program (withCr v) 0xFC044000 4 ≡ toldRead 0 v
+    (meets : program (withCr 0) 0xFC044000 4 ≡ afterRead (withCr 0) 0xFC044000 4)
+    (meets₂ : program (withCr 1) 0xFC044000 4 ≡ afterRead (withCr 1) 0xFC044000 4) where
+  reads-0 : program (withCr 0) 0xFC044000 4 ≡ toldRead 0 0
   unfolding computed withCr
-  reads-cr v = meets v
+  reads-0 = meets
+
+  reads-1 : program (withCr 1) 0xFC044000 4 ≡ toldRead 0 1
+  unfolding computed withCr
+  reads-1 = meets₂
 
   pub read-not-refusing-always : ReadRefusesAlways program → ⊥
   unfolding ReadRefusesAlways
-  read-not-refusing-always wrong = wrong (withCr 0) 0xFC044000 4 (ap readNumber (reads-cr 0))
+  read-not-refusing-always wrong = wrong (withCr 0) 0xFC044000 4 (ap readNumber reads-0)
 
   pub read-not-one-value : OneValue program → ⊥
   unfolding OneValue
-  read-not-one-value wrong =
-      let e : toldRead 0 0 ≡ toldRead 0 1 = sym (reads-cr 0) ∙ wrong (withCr 0) (withCr 1) _ _ _ _ ∙ reads-cr 1 in
-      let h : _≡_ {A = ℕ} 0 1 = cc in absurd (omega (arith, h))
+  read-not-one-value wrong = eqb-false 0 1 refl (read-parts (sym reads-0 ∙ wrong (withCr 0) (withCr 1) _ _ _ _ ∙ reads-1) .1)
+
+-- ---- a fresh device: table, setting, and the fields by their numbers: 7 is the deadline, 16, 20 and 24 the masks
+
+pub fresh-fields : (ignore : Bool) → (fresh ignore .table ≡ replicate 2048 0)
+    × (fresh ignore .«ignore_masks» ≡ ignore)
+    × (fieldsOf (fresh ignore)
+    ≡ replicate 7 0 ++ 0xFFFFFFFFFFFFFFFF ∷ replicate 8 0 ++ 0xFFFFFFFFFFFFFFFF ∷ replicate 3 0 ++ 0xFFFFFFFFFFFFFFFF ∷ replicate 3 0 ++ 0xFFFFFFFFFFFFFFFF ∷ replicate 743 0)
+unfolding computed
+fresh-fields ignore = (refl, refl, refl)

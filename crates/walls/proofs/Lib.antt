@@ -6,4 +6,5 @@ pub mod Leaving
 pub mod Undoing
 pub mod EndCount
 pub mod Bounds
+pub mod Registers
 pub mod Ringing

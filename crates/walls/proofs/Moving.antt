@@ -6,13 +6,13 @@ use mathlib.Core.Logic.{_⊎_, inl, inr}
 use mathlib.Core.Path.{_≡_, refl, sym, ap, _∙_}
 use Prim.Native.Nat.{ℕ, _+_, _<_, _≤_}
 use native.Mathlib.Omega.{arith}
-use borrow.Author.Tests.{ltb-true, ltb-false}
+use borrow.Author.Tests.{eqb-false, ltb-true, ltb-false}
 use lib.Dec.{ltb}
 use lib.ListN.{replicate, getD}
-use Rattle.rules.specs.declared.Tcd.{Tcd}
 use Rattle.rules.specs.Act.{DEFERRED, KICK}
 use Rattle.rules.specs.Calls.{Told}
 use Rattle.rules.specs.Fields.{withField}
+use Rattle.rules.proofs.Marked.{tcd}
 use Rattle.walls.specs.Wrong.{Given, windowOf, MovesOneUnit, runs, serves}
 use Rattle.walls.specs.Examples.{moving, with-channel, requesting, lent, computed}
 
@@ -36,8 +36,8 @@ module _ (program : ℕ × ℕ → Given → Told) (meets : program (0, 0) burst
   by-place : (a : ℕ) → ((i : ℕ) → (i < a) ⊎ (a + 4 ≤ i) → getD (windowOf (program (0, 0) burst)) i 0 ≡ getD (burst .window) i 0)
       → (b : Bool) → ltb 16 a ≡ b → ⊥
   unfolding burst sixteen lent
-  by-place a same true e = let h : _≡_ {A = ℕ} 1 0 = sym (moved 16) ∙ same 16 (inl (ltb-true 16 a e)) in absurd (omega (arith, h))
-  by-place a same false e = let h : _≡_ {A = ℕ} 16 0 = sym (moved 31) ∙ same 31 (inr (omega (arith, ltb-false 16 a e))) in absurd (omega (arith, h))
+  by-place a same true e = eqb-false 1 0 refl (sym (moved 16) ∙ same 16 (inl (ltb-true 16 a e)))
+  by-place a same false e = eqb-false 16 0 refl (sym (moved 31) ∙ same 31 (inr (omega (arith, ltb-false 16 a e))))
 
   pub not-one-unit : MovesOneUnit program → ⊥
   unfolding MovesOneUnit
@@ -45,28 +45,24 @@ module _ (program : ℕ × ℕ → Given → Told) (meets : program (0, 0) burst
 
 -- ---- passes
 
--- two passes of a word each, the second from where the first stored
-unfoldable pub twice : ℕ → ℕ → Tcd
-twice count csr = moving 0x0202 4 4 count 0x80000004 csr
-
 unfoldable pub word : List ℕ
 word = 0x11 ∷ 0x22 ∷ 0x33 ∷ 0x44 ∷ []
 
 unfoldable pub three : List ℕ
 three = word ++ replicate 8 0
 
--- START runs minor loops until majors changes
-pub start-second-pass : windowOf (runs (0, 0) (lent (with-channel 0 (twice 2 1)) three [])) ≡ word ++ word ++ word
-unfolding computed twice word three
+-- each pass moves a word, from where the one before stored it. START runs minor loops until majors changes
+pub start-second-pass : windowOf (runs (0, 0) (lent (with-channel 0 (tcd 0x0202 4 2 2 1)) three [])) ≡ word ++ word ++ word
+unfolding computed word three
 start-second-pass = refl
 
 -- two requests, two passes; of three loops the third waits
-pub request-second-pass : windowOf (runs (0, 0) (lent (requesting 5 2 (twice 3 0)) three [])) ≡ word ++ word ++ word
-unfolding computed twice word three
+pub request-second-pass : windowOf (runs (0, 0) (lent (requesting 5 2 (tcd 0x0202 4 3 3 0)) three [])) ≡ word ++ word ++ word
+unfolding computed word three
 request-second-pass = refl
 
-pub service-second-pass : windowOf (serves (0, 0) (lent (withField DEFERRED 1 (withField KICK 0 (requesting 0 2 (twice 3 0)))) three [])) ≡ word ++ word ++ word
-unfolding computed twice word three
+pub service-second-pass : windowOf (serves (0, 0) (lent (withField DEFERRED 1 (withField KICK 0 (requesting 0 2 (tcd 0x0202 4 3 3 0)))) three [])) ≡ word ++ word ++ word
+unfolding computed word three
 service-second-pass = refl
 
 -- ---- how units and sizes follow each other

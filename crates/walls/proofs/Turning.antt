@@ -10,8 +10,10 @@ use Rattle.rules.specs.Calls.{fresh}
 use Rattle.rules.specs.Fields.{withField}
 use Rattle.rules.specs.Minor.{tcdBytes}
 use Rattle.rules.specs.With.{withTable}
+use Rattle.rules.proofs.Marked.{tcd}
 use Rattle.walls.specs.Wrong.{Given, deviceOf, windowOf, runs, serves}
 use Rattle.walls.specs.Examples.{moving, requesting, lent, computed}
+use Rattle.walls.proofs.Moving.{word, three}
 
 -- channel 0 stores a byte that channel 1 reads
 unfoldable pub rivals : Device
@@ -41,7 +43,7 @@ busy-no-more = refl
 
 unfoldable pub line : ℕ → Given
 line deadline =
-    lent (withField DEADLINE deadline (requesting 35 5 (moving 0x0202 4 4 2 0x80000004 0))) (0x11 ∷ 0x22 ∷ 0x33 ∷ 0x44 ∷ replicate 8 0) []
+    lent (withField DEADLINE deadline (requesting 35 5 (tcd 0x0202 4 2 2 0))) three []
 
 -- busy time, deadline, pending count and majors of channel 35
 unfoldable pub paced : Device → List ℕ
@@ -49,12 +51,12 @@ paced d = getD (d .busy) 35 0 ∷ d .deadline ∷ getD (d .pending) 35 0 ∷ get
 
 -- both passes up to DONE, for one request, of which none is spent; busy for 8 bytes at pace 3; a later deadline falls to that
 pub line-paced : paced (deviceOf (runs (100, 3) (line (2 ^ 64 - 1)))) ≡ 124 ∷ 124 ∷ 5 ∷ 1 ∷ []
-unfolding computed line paced
+unfolding computed line word three paced
 line-paced = refl
 
 -- an earlier one stays
 pub deadline-stays : paced (deviceOf (runs (100, 3) (line 123))) ≡ 124 ∷ 123 ∷ 5 ∷ 1 ∷ []
-unfolding computed line paced
+unfolding computed line word three paced
 deadline-stays = refl
 
 -- any other channel spends a pending count for each pass

@@ -4,28 +4,23 @@ use mathlib.Core.List.{List, [], _∷_, _++_}
 use mathlib.Core.Logic.{_⊎_, inl, inr}
 use mathlib.Core.Path.{_≡_, refl, sym, ap, _∙_}
 use Prim.Native.Nat.{ℕ}
-use native.Mathlib.Omega.{arith}
+use borrow.Author.Tests.{eqb-false}
 use lib.ListN.{replicate, getD, length}
 use Rattle.rules.specs.declared.Heard.the-variants as Heard
 use Rattle.rules.specs.Calls.{fresh, Told, told}
 use Rattle.rules.specs.Carry.{line, endLine}
-use Rattle.rules.proofs.Marked.{tcd, window₀, device₀, journal₀, listing, ran}
-use Rattle.walls.specs.Wrong.{Given, deviceOf, windowOf, journalOf, UndoesOneRecord, takesBack}
-use Rattle.walls.specs.Examples.{computed}
-
--- what 'Run only' left
-unfoldable pub standing : Given
-standing = record { base = 0x80000000; device = deviceOf ran; window = windowOf ran; staging = []; journal = journalOf ran; used = 192 }
+use Rattle.walls.specs.Wrong.{Given, deviceOf, windowOf, UndoesOneRecord, takesBack}
+use Rattle.walls.specs.Examples.{standing, computed}
 
 module _ (program : Unit {0} → Given → Told) (meets : program tt standing ≡ takesBack tt standing) where
   -- the run changed the window and the device, and both are as before
   pub not-one-record : UndoesOneRecord program → ⊥
-  unfolding UndoesOneRecord computed standing tcd window₀ device₀ journal₀ listing ran
+  unfolding UndoesOneRecord computed
   not-one-record wrong = by-part (wrong tt standing)
     where
       by-part : (windowOf (program tt standing) ≡ standing .window) ⊎ (deviceOf (program tt standing) ≡ standing .device) → ⊥
-      by-part (inl e) = let h : _≡_ {A = ℕ} 0 0x11 = ap (λ t. getD (windowOf t) 4 0) (sym meets) ∙ ap (λ w. getD w 4 0) e in absurd (omega (arith, h))
-      by-part (inr e) = let h : _≡_ {A = ℕ} 1 0 = ap (λ t. deviceOf t .kick) (sym meets) ∙ ap (λ d. d .kick) e in absurd (omega (arith, h))
+      by-part (inl e) = eqb-false 0 0x11 refl (ap (λ t. getD (windowOf t) 4 0) (sym meets) ∙ ap (λ w. getD w 4 0) e)
+      by-part (inr e) = eqb-false 1 0 refl (ap (λ t. deviceOf t .kick) (sym meets) ∙ ap (λ d. d .kick) e)
 
 -- ---- damage: 13, and all is as it was
 

@@ -1,16 +1,17 @@
--- What the examples are made of: devices, and what a call is given. Assumes nothing.
+-- What the examples are made of: devices that a caller can have, fresh ones with fields and descriptors set, and what a call is given. Assumes
+-- nothing.
 use mathlib.Core.Bool.{false}
-use mathlib.Core.List.{List, _++_}
+use mathlib.Core.List.{List, [], _∷_, _++_}
 use Prim.Native.Nat.{ℕ, _-_, _*_, _^_}
 use lib.Count.{trailingZeros}
 use lib.ListN.{replicate}
 use Rattle.rules.specs.declared.Device.{Device}
 use Rattle.rules.specs.declared.Tcd.{Tcd}
-use Rattle.rules.specs.Act.{acts, ERQ, KICK, PENDING}
+use Rattle.rules.specs.Act.{acts, Field, ERQ, KICK, PENDING}
 use Rattle.rules.specs.Bytes.{bytesRules}
 use Rattle.rules.specs.Calls.{calls, fresh}
 use Rattle.rules.specs.Carry.{carry}
-use Rattle.rules.specs.Fields.{fields, withField}
+use Rattle.rules.specs.Fields.{fields, holds, withField}
 use Rattle.rules.specs.Lines.{linesRules}
 use Rattle.rules.specs.Minor.{minor, tcdBytes}
 use Rattle.rules.specs.Registers.{registers}
@@ -18,7 +19,8 @@ use Rattle.rules.specs.Run.{runs}
 use Rattle.rules.specs.TakeBack.{takes}
 use Rattle.rules.specs.With.{withTable}
 use Rattle.rules.specs.Words.{words}
-use Rattle.walls.specs.Wrong.{Given, wrongs}
+use Rattle.rules.proofs.Marked.{tcd, window₀, device₀, journal₀, ran, ringing}
+use Rattle.walls.specs.Wrong.{Given, deviceOf, windowOf, journalOf, writes, wrongs}
 
 -- a descriptor that moves bytes from 0x80000000 on: attr, nbytes, counts, where to, csr; steps of the size given
 unfoldable pub moving : ℕ → ℕ → ℕ → ℕ → ℕ → ℕ → Tcd
@@ -48,7 +50,20 @@ requesting ch count t = withField ERQ (2 ^ ch) (withField (PENDING ch) count (wi
 unfoldable pub lent : Device → List ℕ → List ℕ → Given
 lent d window staging = record { base = 0x80000000; device = d; window = window; staging = staging; journal = replicate 512 0xEE; used = 0 }
 
+-- what document 01's 'Run only' left
+unfoldable pub standing : Given
+standing = record { base = 0x80000000; device = deviceOf ran; window = windowOf ran; staging = []; journal = journalOf ran; used = 192 }
+
+-- what some fields hold
+unfoldable pub held : Device → List Field → List ℕ
+held d [] = []
+held d (f ∷ fs) = holds f d ∷ held d fs
+
+-- and after a write of so many bytes at an address
+unfoldable pub written : Device → ℕ → ℕ → ℕ → List Field → List ℕ
+written d address size v fs = held (deviceOf (writes (address, size, v) (lent d [] []))) fs
+
 -- on an `unfolding` line: all that computes
 unfoldable pub computed : Unit {0}
-unfolding moving with-channel requesting lent wrongs trailingZeros acts bytesRules words fields carry minor runs linesRules registers takes calls
+unfolding moving with-channel requesting lent standing held written tcd window₀ device₀ journal₀ ran ringing wrongs trailingZeros acts bytesRules words fields carry minor runs linesRules registers takes calls
 computed = tt

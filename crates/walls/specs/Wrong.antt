@@ -1,5 +1,6 @@
 -- The wrong programs that document 01 names ("What the promises have to say"), as properties of any program for a call: from what the call is
--- asked and given to all that is there after it. And what shuts them out. Assumes nothing.
+-- asked and given to all that is there after it. And what shuts them out. A program is a function on all numbers and lists: what it does with those
+-- that no caller can give is free. Assumes nothing.
 use mathlib.Core.List.{List, [], _∷_}
 use mathlib.Core.Logic.{_⊎_}
 use mathlib.Core.Path.{_≡_}
