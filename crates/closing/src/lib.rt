@@ -388,7 +388,7 @@ fn note_high(
 
 // For callers that hold the long arrays apart: the act began with `before`, `busy`, `majors`, .. and came to `after`, `busy_after`, ..;
 // its group began at `used`, and the next record goes to `at`. (One lifetime for each side: only so can fields of one device be lent at once.)
-pub fn end_parts<'a, 'b>(
+fn end_parts<'a, 'b>(
     before: Small,
     after: Small,
     touched: Touched,

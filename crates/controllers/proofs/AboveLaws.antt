@@ -9,10 +9,12 @@ use borrow.Author.Tests.{eq-eqb, ne-eqb, lt-ltb, le-ltb, le-leb, lt-leb, leb-tru
 use lib.Dec.{eqb, leb, ltb, leb·zero}
 use lib.Arith.{lt-of-le-ne}
 use lib.ListN.{getD}
-use Rattle.rules.specs.Words.{has, lose, highest}
+use Rattle.rules.specs.Words.{has, lose}
 use Rattle.rules.specs.Lines.{answers, loudestAbove, above, Found}
 use Rattle.rules.proofs.BoolLaws.{and-left}
-use Rattle.rules.proofs.Masks.{bit, lose-same, lose-other, bit-highest, above-highest, highest-lt}
+use Rattle.rules.proofs.Masks.{bit, lose-same, lose-other}
+use Rattle.words.specs.Highest.{highest}
+use Rattle.words.proofs.Highest.{bit-highest, above-highest, highest-lt}
 use Rattle.controllers.specs.Levels.{saidBy, over}
 
 -- ---- what was found, put together

@@ -8,9 +8,11 @@ use native.Mathlib.Omega.{arith}
 use borrow.Author.Tests.{eqb-true, eqb-false}
 use lib.Dec.{eqb}
 use lib.ListN.{getD}
-use Rattle.rules.specs.Words.{has, lose, lowest, highest}
+use Rattle.rules.specs.Words.{has, lose, lowest}
 use Rattle.rules.specs.Lines.{loudest}
-use Rattle.rules.proofs.Masks.{bit, lose-same, lose-other, lose-less, bit-lowest, bit-highest}
+use Rattle.rules.proofs.Masks.{bit, lose-same, lose-other, lose-less, bit-lowest}
+use Rattle.words.specs.Highest.{highest}
+use Rattle.words.proofs.Highest.{bit-highest}
 
 module _ (levels : List ℕ) where
   -- what source s says

@@ -10,7 +10,7 @@ use Rattle.rules.specs.declared.Device.{Device}
 use Rattle.rules.specs.declared.Tcd.{Tcd}
 use Rattle.rules.specs.Act.{acts, KICK}
 use Rattle.rules.specs.Bytes.{bytesRules, part}
-use Rattle.rules.specs.Calls.{calls, fresh, run, after, Told, told}
+use Rattle.rules.specs.Calls.{calls, fresh, run, after, Told, told, numberTold}
 use Rattle.rules.specs.Carry.{carry}
 use Rattle.rules.specs.Fields.{fields, withField}
 use Rattle.rules.specs.Lines.{linesRules}
@@ -60,11 +60,7 @@ pub link-at-count-0 : tableOf (after (run 0 0) 0x80000000 (kicked (oneByte 0x820
 unfolding tableOf kicked oneByte trailingZeros acts bytesRules words fields carry minor runs linesRules calls
 link-at-count-0 = refl
 
--- the number of an outcome
-unfoldable pub numberIn : Told → ℕ
-numberIn (told n heard d w s j u) = n
-
 -- a byte stored outside the window, with no room for its record either: 9 before 11 at one store
-pub outside-before-room : numberIn (after (run 0 0) 0x80000000 (kicked (oneByte 1 0 1)) (7 ∷ []) [] [] 0) ≡ 9
-unfolding numberIn kicked oneByte trailingZeros acts bytesRules words fields carry minor runs linesRules calls
+pub outside-before-room : numberTold (after (run 0 0) 0x80000000 (kicked (oneByte 1 0 1)) (7 ∷ []) [] [] 0) ≡ 9
+unfolding kicked oneByte trailingZeros acts bytesRules words fields carry minor runs linesRules calls
 outside-before-room = refl

@@ -9,7 +9,7 @@ use Rattle.rules.specs.Carry.{After, made, unmade}
 use Rattle.rules.specs.Calls.{Asked, wrong, wrongBack, Told, told, after, afterBack, ToldRead, toldRead, afterRead}
 use Rattle.rules.specs.declared.Device.{Device}
 use Rattle.rules.specs.declared.Heard.{Heard}
-use Rattle.rules.proofs.History.{Entry, Walk, walk, alone}
+use Rattle.rules.proofs.History.{Entry, Walk, walk, Alone}
 use Rattle.rules.proofs.CallLaws.{AsGiven, act-wrong, back-wrong, act-as-given, back-as-given}
 
 -- ---- what it owns, and its calls
@@ -61,13 +61,13 @@ module _ (base : ℕ) where
   unfoldable pub backHeld : Held → After Heard Held
   backHeld h = ended (afterBack base (h .device) (h .window) (h .journal) (h .used))
 
-  -- where a row leads, its last entry first: what the bench owns then, and the calls still standing, the last one first
-  abbrev pub walked : Held → List (Entry RowCall) → Walk RowCall Held
+  -- where a row leads, its last entry first: what the bench owns then, and the calls still standing with their answers, the last one first
+  abbrev pub walked : Held → List (Entry RowCall) → Walk RowCall Heard Held
   walked start row = walk makeHeld backHeld start row
 
-  -- where calls lead that are made alone in order, the last one first
-  abbrev pub aloneFrom : Held → List RowCall → Held
-  aloneFrom start cs = alone makeHeld start cs
+  -- calls, the last one first, made alone in order from the start: all are made, with these answers, and lead to h
+  abbrev pub MadeAlone : Held → List (RowCall × Heard) → Held → Type 0
+  MadeAlone start cs h = Alone makeHeld start cs h
 
 -- ---- every refusal, whatever the bench owns
 

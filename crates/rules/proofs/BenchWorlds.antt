@@ -14,12 +14,12 @@ use Rattle.rules.specs.declared.Heard.{Heard}
 use Rattle.rules.specs.declared.Heard.the-variants as Heard
 use Rattle.rules.proofs.Free.{Seen, seen, Agree}
 use Rattle.rules.proofs.Took.{total, refused}
-use Rattle.rules.proofs.History.{Entry, walk, alone}
+use Rattle.rules.proofs.History.{Entry, walk, Alone}
 use Rattle.rules.proofs.Standing.{Call, makeCall}
 use Rattle.rules.proofs.Lasts.{Ending, Lasts, perform-lasts, act-number, back-refused}
 use Rattle.rules.proofs.CallLaws.{back-wrong}
 use Rattle.rules.proofs.Through.{carried, carriedWalk, walk-keeps, alone-through, walk-through}
-use Rattle.rules.proofs.Bench.{Held, compared, RowCall, act, read, amiss, amissBack, ended, readNumber, makeHeld, backHeld, walked, aloneFrom, amiss-ends, amiss-back-ends}
+use Rattle.rules.proofs.Bench.{Held, compared, RowCall, act, read, amiss, amissBack, ended, readNumber, makeHeld, backHeld, walked, MadeAlone, amiss-ends, amiss-back-ends}
 
 -- ---- what it owns
 
@@ -76,8 +76,8 @@ treeOf (read address size) = done Heard.Nothing
 treeOf (amiss c b window staging journal used bad) = done Heard.Nothing
 treeOf (amissBack b window journal used bad) = done Heard.Nothing
 
-abbrev pub callOf : ℕ → RowCall → Call
-callOf base c = record { Answer = Heard; before = before base c; before-same = before-same base c; staging = stagingOf c; act = treeOf c }
+abbrev pub callOf : ℕ → RowCall → Call Heard
+callOf base c = record { before = before base c; before-same = before-same base c; staging = stagingOf c; act = treeOf c }
 
 module _ (base : ℕ) (c : Asked) (staging : List ℕ) (u : World) where
   performed : (o : After Heard World) → perform base (length staging) (actOf c) u ≡ o → ended (toldAfter (stagingAfter c staging) (length (u .used)) o) ≡ carried (λ a. a) heldOf o
@@ -174,12 +174,11 @@ module _ (base : ℕ) (start : Held) (empty : start .used ≡ 0) where
     whole = ap (λ n. length (take n (start .journal)) % 16) empty;
   }
 
-  pub alone-is : (cs : List RowCall) → compared (aloneFrom base start cs) ≡ shown (seen (alone (makeWorld base) (worldIn start) cs))
-  alone-is cs =
-      ap compared
-      (subst (λ h. aloneFrom base h cs ≡ heldOf (alone (makeWorld base) (worldIn start) cs)) first-held
-      (alone-through (makeWorld base) (makeHeld base) heldOf (make-through base) (worldIn start) cs))
-      ∙ compared-held (alone (makeWorld base) (worldIn start) cs)
+  -- calls of worlds made alone are calls of the bench made alone
+  pub alone-is : {cs : List (RowCall × Heard)} {w : World} → Alone (makeWorld base) (worldIn start) cs w → MadeAlone base start cs (heldOf w)
+  alone-is {cs} {w} k =
+      subst (λ h. MadeAlone base h cs (heldOf w)) first-held
+      (alone-through (makeWorld base) (makeHeld base) heldOf (AsLong start) (make-lasts base) (λ c u _. make-through base c u) (worldIn start) first-as-long k)
 
   -- where take-backs of worlds that are as long are those of the bench
   module _ (takesBack : World → After (Unit {0}) World) (back-keeps : (u : World) → AsLong start u → Ending (AsLong start) (takesBack u))
@@ -191,4 +190,4 @@ module _ (base : ℕ) (start : Held) (empty : start .used ≡ 0) where
       pub row-is : (row : List (Entry RowCall)) → walked base start row ≡ carriedWalk heldOf (walk (makeWorld base) takesBack (worldIn start) row)
       row-is row =
           subst (λ h. walked base h row ≡ carriedWalk heldOf (walk (makeWorld base) takesBack (worldIn start) row)) first-held
-          (walk-through (makeWorld base) (makeHeld base) heldOf (make-through base) takesBack (backHeld base) (λ _. Heard.Nothing) (AsLong start) (make-lasts base) back-keeps back-is (worldIn start) first-as-long row)
+          (walk-through (makeWorld base) (makeHeld base) heldOf (AsLong start) (make-lasts base) (λ c u _. make-through base c u) takesBack (backHeld base) (λ _. Heard.Nothing) back-keeps back-is (worldIn start) first-as-long row)

@@ -22,7 +22,7 @@ use Rattle.rules.proofs.Standing.{refusesWith, never-back, standing-alo
 use Rattle.rules.proofs.Lasts.{back-lasts, back-refused}
 use Rattle.rules.proofs.CallLaws.{window-fits, back-right, window-refused, journal-refused}
 use Rattle.rules.proofs.Through.{carried}
-use Rattle.rules.proofs.Bench.{Held, compared, RowCall, backHeld, walked, aloneFrom}
+use Rattle.rules.proofs.Bench.{Held, compared, RowCall, backHeld, walked, MadeAlone}
 use Rattle.rules.proofs.BenchWorlds.{worldIn, heldOf, shown, compared-held, callOf, makeWorld, back-through, wrong-through, AsLong, first-as-long, alone-is, row-as-long, row-is}
 
 -- where a row begins: nothing is used of a journal of at most 2^28 bytes, the window is of bytes and one that refusal 5 lets pass, and the
@@ -56,11 +56,11 @@ module _ (base : ℕ) (start : Held) (begins : Start base start) where
       (back-right base (length (u .now .mem)) (total u) (length (u .used)) (ap (badWindow base) (l .window-is) ∙ begins .window-passes)
       (omega (arith, l .journal-is, begins .room)) (l .whole) (omega arith))
 
-  abbrev worlds : List (Entry RowCall) → Walk RowCall World
+  abbrev worlds : List (Entry RowCall) → Walk RowCall Heard World
   worlds row = walk (makeWorld base) (takeBack base) (worldIn start) row
 
   -- a fact of where a row leads, shown in the world
-  seen-there : (P : Walk RowCall Held → Type 0) (row : List (Entry RowCall)) → P (record { here = heldOf (worlds row .here); standing = worlds row .standing }) → P (walked base start row)
+  seen-there : (P : Walk RowCall Heard Held → Type 0) (row : List (Entry RowCall)) → P (record { here = heldOf (worlds row .here); standing = worlds row .standing }) → P (walked base start row)
   seen-there P row = subst⁻¹ P (row-is base start (begins .empty) (takeBack base) (back-lasts base) back-is row)
 
   back-there : (row : List (Entry RowCall)) → backHeld base (heldOf (worlds row .here)) ≡ carried (λ _. Heard.Nothing) heldOf (takeBack base (worlds row .here))
@@ -93,22 +93,25 @@ module _ (base : ℕ) (start : Held) (begins : Start base start) where
 
   -- ---- demand 3
 
-  -- window, device and used journal are what the calls still standing, made alone in order, give
-  pub same-as-alone : (row : List (Entry RowCall)) → let s = walked base start row in compared (s .here) ≡ compared (aloneFrom base start (s .standing))
+  -- the calls still standing, made alone in order, are all accepted, answer what they answered in the row, and give window, device and used
+  -- journal as they are
+  pub same-as-alone : (row : List (Entry RowCall)) → let s = walked base start row in (h : Held) × MadeAlone base start (s .standing) h × (compared (s .here) ≡ compared h)
   same-as-alone row =
-      seen-there (λ s. compared (s .here) ≡ compared (aloneFrom base start (s .standing))) row
-      (compared-held (worlds row .here) ∙ ap shown (standing-alone (callOf base) base (worldIn start) good none-used few row)
-      ∙ sym (alone-is base start (begins .empty) (worlds row .standing)))
+      seen-there (λ s. (h : Held) × MadeAlone base start (s .standing) h × (compared (s .here) ≡ compared h)) row
+      (let r = standing-alone (callOf base) base (worldIn start) good none-used few row in
+      (heldOf (r .0), alone-is base start (begins .empty) (r .1), compared-held (worlds row .here) ∙ ap shown (r .2) ∙ sym (compared-held (r .0))))
 
   -- where one stands, a take-back is made, and leads to what the others, made alone in order, give
-  pub last-taken-back : (row : List (Entry RowCall)) (c : RowCall) (cs : List RowCall) → let s = walked base start row in s .standing ≡ c ∷ cs
-      → (h : Held) × (backHeld base (s .here) ≡ made Heard.Nothing h) × (compared h ≡ compared (aloneFrom base start cs))
+  pub last-taken-back : (row : List (Entry RowCall)) (c : RowCall × Heard) (cs : List (RowCall × Heard)) → let s = walked base start row in s .standing ≡ c ∷ cs
+      → (h k : Held) × (backHeld base (s .here) ≡ made Heard.Nothing h) × MadeAlone base start cs k × (compared h ≡ compared k)
   last-taken-back row c cs =
-      seen-there (λ s. s .standing ≡ c ∷ cs → (h : Held) × (backHeld base (s .here) ≡ made Heard.Nothing h) × (compared h ≡ compared (aloneFrom base start cs))) row (λ e.
+      seen-there (λ s. s .standing ≡ c ∷ cs → (h k : Held) × (backHeld base (s .here) ≡ made Heard.Nothing h) × MadeAlone base start cs k × (compared h ≡ compared k)) row (λ e.
       let r = undoes-last (callOf base) base (worldIn start) good none-used few row c cs e in (
         heldOf (r .0),
-        back-there row ∙ ap (carried (λ (_ : Unit {0}). Heard.Nothing) heldOf) (r .1),
-        compared-held (r .0) ∙ ap shown (r .2) ∙ sym (alone-is base start (begins .empty) cs),
+        heldOf (r .1),
+        back-there row ∙ ap (carried (λ (_ : Unit {0}). Heard.Nothing) heldOf) (r .2),
+        alone-is base start (begins .empty) (r .3),
+        compared-held (r .0) ∙ ap shown (r .4) ∙ sym (compared-held (r .1)),
       ))
 
   -- it is refused with 12, and all is as it was, exactly if none stands
@@ -128,34 +131,35 @@ module _ (base : ℕ) (start : Held) (begins : Start base start) where
       let f = back-there row ∙ ap (carried (λ (_ : Unit {0}). Heard.Nothing) heldOf) r in
       (by-standing (worlds row .standing) refl r, cc))
     where
-      by-standing : (cs : List RowCall) → worlds row .standing ≡ cs → takeBack base (worlds row .here) ≡ unmade n (worlds row .here) → n ≡ 12
+      by-standing : (cs : List (RowCall × Heard)) → worlds row .standing ≡ cs → takeBack base (worlds row .here) ≡ unmade n (worlds row .here) → n ≡ 12
       by-standing [] p e = let f = refused-12 (callOf base) base (worldIn start) good none-used few row .1 p in cc
       by-standing (c ∷ cs) p e =
-          let f = undoes-last (callOf base) base (worldIn start) good none-used few row c cs p .1 in
+          let f = undoes-last (callOf base) base (worldIn start) good none-used few row c cs p .2 in
           let z : _≡_ {A = ℕ} 0 1 = cc in absurd (omega arith)
 
 -- ---- where every take-back is refused for its arguments
 
 module _ (base : ℕ) (start : Held) (empty : start .used ≡ 0) (row : List (Entry RowCall)) where
-  never-taken-back : (n : ℕ) → ((used : ℕ) → wrongBack base (length (start .window)) (length (start .journal)) used ≡ suc n) → let s = walked base start row in
-      (compared (s .here) ≡ compared (aloneFrom base start (s .standing))) × (backHeld base (s .here) ≡ unmade (suc n) (s .here))
+  -- every take-back is refused with n, and what is there is what the standing calls, made alone in order, give
+  abbrev pub NoBack : ℕ → Walk RowCall Heard Held → Type 0
+  NoBack n s = ((h : Held) × MadeAlone base start (s .standing) h × (compared (s .here) ≡ compared h)) × (backHeld base (s .here) ≡ unmade n (s .here))
+
+  never-taken-back : (n : ℕ) → ((used : ℕ) → wrongBack base (length (start .window)) (length (start .journal)) used ≡ suc n) → NoBack (suc n) (walked base start row)
   never-taken-back n always =
       let s = walk (makeWorld base) (refusesWith (suc n)) (worldIn start) row in
-      subst⁻¹ (λ (x : Walk RowCall Held). (compared (x .here) ≡ compared (aloneFrom base start (x .standing))) × (backHeld base (x .here) ≡ unmade (suc n) (x .here)))
-      (row-is base start empty (refusesWith (suc n)) (λ u l. l) refuses row) (
-        compared-held (s .here) ∙ ap shown (never-back (callOf base) base (suc n) (worldIn start) row) ∙ sym (alone-is base start empty (s .standing)),
+      let r = never-back (callOf base) base (suc n) (worldIn start) row in
+      subst⁻¹ (NoBack (suc n)) (row-is base start empty (refusesWith (suc n)) (λ u l. l) refuses row) (
+        (heldOf (r .0), alone-is base start empty (r .1), compared-held (s .here) ∙ ap shown (r .2) ∙ sym (compared-held (r .0))),
         refuses (s .here) (row-as-long base start empty (refusesWith (suc n)) (λ u l. l) refuses row),
       )
     where
       refuses : (u : World) → AsLong start u → backHeld base (heldOf u) ≡ unmade (suc n) (heldOf u)
       refuses u l = wrong-through base u n (ap₂ (λ w j. wrongBack base w j (length (u .used))) (l .window-is) (l .journal-is) ∙ always (length (u .used)))
 
-  -- a window that refusal 5 does not let pass: every take-back is refused with 5, and what is there is what the standing calls alone give
-  pub no-back-5 : badWindow base (length (start .window)) ≡ true → let s = walked base start row in
-      (compared (s .here) ≡ compared (aloneFrom base start (s .standing))) × (backHeld base (s .here) ≡ unmade 5 (s .here))
+  -- a window that refusal 5 does not let pass
+  pub no-back-5 : badWindow base (length (start .window)) ≡ true → NoBack 5 (walked base start row)
   no-back-5 bad = never-taken-back 4 (λ used. window-refused base (length (start .window)) (length (start .journal)) used bad)
 
-  -- a journal longer than 2^28 bytes: likewise with 6
-  pub no-back-6 : badWindow base (length (start .window)) ≡ false → 2 ^ 28 < length (start .journal) → let s = walked base start row in
-      (compared (s .here) ≡ compared (aloneFrom base start (s .standing))) × (backHeld base (s .here) ≡ unmade 6 (s .here))
+  -- a journal longer than 2^28 bytes
+  pub no-back-6 : badWindow base (length (start .window)) ≡ false → 2 ^ 28 < length (start .journal) → NoBack 6 (walked base start row)
   no-back-6 passes long = never-taken-back 5 (λ used. journal-refused base (length (start .window)) (length (start .journal)) used passes long)

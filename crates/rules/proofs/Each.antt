@@ -10,8 +10,9 @@ use lib.Pow.{pow-pos}
 use Rattle.rules.specs.declared.Device.{Device}
 use Rattle.rules.specs.Act.{Act, Done, Endless, Stage, Fetch, Store, Ask, Put, Look, Space, window, table, Field, Setting, stage, fetch, store, ask, put, change, look, when}
 use Rattle.rules.specs.Act as acts
-use Rattle.rules.specs.Bytes.{bytes}
-use Rattle.rules.specs.Fields.{bitsOf, holds, settingOf, headOf, partsOf}
+use Rattle.rules.specs.Bytes.{bytes, splice}
+use Rattle.rules.specs.Fields.{bitsOf, holds, withField, settingOf, headOf, partsOf}
+use Rattle.rules.specs.With.{withTable}
 use Rattle.rules.specs.Carry.{Machine, World, no, bytesOf, withBytesOf, withDevice, indexOf, there, legal, fetched, stored, recorded, go}
 use Rattle.rules.proofs.BytesLaws.{length-part, length-splice, bytes-bytes, bytes-splice}
 use Rattle.rules.proofs.FieldLaws.{Sound, put-law, put-sound, holds-fits}
@@ -21,8 +22,10 @@ use Rattle.rules.proofs.Keeps.{AtEnd}
 
 infixl 20 _>>=_
 infixl 20 _>>_
--- what an act may do: which bytes of which space it fetches and stores to (place, width), and which fields it puts
+-- what an act may do: how many bytes of staging it needs, which bytes of which space it fetches and stores to (place, width), and which fields it
+-- puts
 pub record Rights : Type 1 where
+  pub may-stage : ℕ → Type 0
   pub may-fetch : Space → ℕ → ℕ → Type 0
   pub may-store : Space → ℕ → ℕ → Type 0
   pub may-put : Field → Type 0
@@ -31,7 +34,7 @@ pub record Rights : Type 1 where
 pub data Each (r : Rights) {A : Type 0} : Act A → Type 0 where
   at-done : {a : A} → Each r (Done a)
   at-endless : Each r Endless
-  at-stage : {n : ℕ} {k : Act A} → Each r k → Each r (Stage n k)
+  at-stage : {n : ℕ} {k : Act A} → r .may-stage n → Each r k → Each r (Stage n k)
   at-fetch : {sp : Space} {a n : ℕ} {k : List ℕ → Act A} → r .may-fetch sp a n → ((l : List ℕ) → length l ≡ n → Each r (k l)) → Each r (Fetch sp a n k)
   at-store : {sp : Space} {a n v : ℕ} {k : Act A} → r .may-store sp a n → Each r k → Each r (Store sp a n v k)
   at-ask : {f : Field} {k : ℕ → Act A} → ((v : ℕ) → v < 2 ^ bitsOf f → Each r (k v)) → Each r (Ask f k)
@@ -42,7 +45,7 @@ pub _>>=_ : {r : Rights} {A B : Type 0} {m : Act A} {f : A → Act B} → Each r
 unfolding acts._>>=_
 at-done {a} >>= g = g a
 at-endless >>= g = at-endless
-at-stage p >>= g = at-stage (p >>= g)
+at-stage h p >>= g = at-stage h (p >>= g)
 at-fetch h p >>= g = at-fetch h (λ l e. p l e >>= g)
 at-store h p >>= g = at-store h (p >>= g)
 at-ask p >>= g = at-ask (λ v h. p v h >>= g)
@@ -56,9 +59,9 @@ p >> q = p >>= (λ _. q)
 -- ---- the single steps
 
 module _ {r : Rights} where
-  pub each-stage : (n : ℕ) → Each r (stage n)
+  pub each-stage : (n : ℕ) → r .may-stage n → Each r (stage n)
   unfolding stage
-  each-stage n = at-stage at-done
+  each-stage n h = at-stage h at-done
 
   pub each-fetch : (sp : Space) (a n : ℕ) → r .may-fetch sp a n → Each r (fetch sp a n)
   unfolding fetch
@@ -108,27 +111,28 @@ pub record Proper (d : Device) : Type 0 where
 pub typed-proper : (d : Device) → Typed d → Proper d
 typed-proper d t = record { sound = sound d t; size = table-size d t }
 
-module _ (base : ℕ) (u : World) (p : Proper (u .now .dev)) where
-  pub proper-store : (sp : Space) (a n v : ℕ) → Proper (recorded base sp a n v u .now .dev)
-  unfolding recorded stored withBytesOf bytesOf headOf partsOf
-  proper-store window a n v = p
-  proper-store table a n v = record {
-    sound = record {
-      three = p .sound .three;
-      fitting = p .sound .fitting;
-      table-bytes = bytes-splice (u .now .dev .table) (indexOf base table a) (bytes n v) (p .sound .table-bytes) (bytes-bytes n v);
-    };
-    size = length-splice (u .now .dev .table) (indexOf base table a) (bytes n v) ∙ p .size;
-  }
+pub proper-table : (i n v : ℕ) (d : Device) → Proper d → Proper (withTable d (splice (d .table) i (bytes n v)))
+unfolding headOf partsOf
+proper-table i n v d p = record {
+  sound = record {
+    three = p .sound .three;
+    fitting = p .sound .fitting;
+    table-bytes = bytes-splice (d .table) i (bytes n v) (p .sound .table-bytes) (bytes-bytes n v);
+  };
+  size = length-splice (d .table) i (bytes n v) ∙ p .size;
+}
+
+pub proper-field : (f : Field) (v : ℕ) (d : Device) → v < 2 ^ bitsOf f → Proper d → Proper (withField f v d)
+proper-field f v d l p = record { sound = put-sound f v d (p .sound) l; size = ap length (put-law f v d (p .sound .three) .table) ∙ p .size }
+
+pub proper-store : (base : ℕ) (u : World) → Proper (u .now .dev) → (sp : Space) (a n v : ℕ) → Proper (recorded base sp a n v u .now .dev)
+unfolding recorded stored withBytesOf bytesOf
+proper-store base u p window a n v = p
+proper-store base u p table a n v = proper-table (indexOf base table a) n v (u .now .dev) p
 
 pub proper-put : (f : Field) (v : ℕ) (u : World) → Proper (u .now .dev) → Proper (putting f (v % 2 ^ bitsOf f) u .now .dev)
 unfolding withDevice
-proper-put f v u p =
-    let x = v % 2 ^ bitsOf f in
-    record {
-      sound = put-sound f x (u .now .dev) (p .sound) (mod-lt v (pow-pos (bitsOf f)));
-      size = ap length (put-law f x (u .now .dev) (p .sound .three) .table) ∙ p .size;
-    }
+proper-put f v u p = proper-field f (v % 2 ^ bitsOf f) (u .now .dev) (mod-lt v (pow-pos (bitsOf f))) p
 
 pub fetched-length : (base : ℕ) (sp : Space) (a n : ℕ) (m : Machine) → length (fetched base sp a n m) ≡ n
 unfolding fetched
@@ -147,7 +151,7 @@ module _ (base staging : ℕ) (r : Rights) (P : World → Type 0)
     unfolding go
     each-keeps at-done u p = p
     each-keeps at-endless u p = p
-    each-keeps {A} (at-stage {n} {k} q) u p =
+    each-keeps {A} (at-stage {n} {k} h q) u p =
         elim (leb n staging) as (λ b. AtEnd (Properly P) {A = A} (elim b [ true ↦ go base staging k u | false ↦ no 10 u ])) [
           | true ↦ each-keeps q u p
           | false ↦ p

@@ -36,6 +36,7 @@ Inside table a n = a + n ≤ 2048
 -- every store has a legal width, and every place in the table is inside its 2048 bytes
 unfoldable pub guarded : Rights
 guarded = record {
+  may-stage = λ n. Unit {0};
   may-fetch = λ sp a n. Inside sp a n;
   may-store = λ sp a n. (legal sp n ≡ true) × Inside sp a n;
   may-put = λ f. Unit {0};
@@ -58,7 +59,7 @@ module _ (ch : ℕ) (h : ch < 64) where
   pass-guarded : Each guarded (pass ch)
   unfolding guarded legal
   pass-guarded = pass-each ch record {
-    on-window = record { fetch-unit = λ a n l. tt; store-unit = λ a n l. (l, tt) };
+    on-window = record { stage-any = λ n. tt; fetch-unit = λ a n l. tt; store-unit = λ a n l. (l, tt) };
     fetch-own = omega arith;
     store-own = λ a n l b w. (w, omega arith);
     fetch-link = λ to l. omega arith;
@@ -471,7 +472,7 @@ module _ (base staging : ℕ) where
   unfolding go goBare guarded
   bare-same at-done u p = refl
   bare-same at-endless u p = refl
-  bare-same (at-stage {n} q) u p = ap (λ o. tested (leb n staging) o (no 10 u)) (bare-same q u p)
+  bare-same (at-stage {n} _ q) u p = ap (λ o. tested (leb n staging) o (no 10 u)) (bare-same q u p)
   bare-same (at-fetch {sp = window} {a} {n} h q) u p =
       ap (λ o. tested (there base window a n (u .now)) o (no 9 u)) (bare-same (q _ (fetched-length base window a n (u .now))) u p)
   bare-same (at-fetch {sp = table} {a} {n} {k} h q) u p =

@@ -28,31 +28,34 @@ Ending P (unmade n w) = P w
 -- ---- how a take-back ends
 
 -- the last i records and their end undone, and gone from the used journal
-abbrev lastUndone : ℕ → World → ℕ → World
+abbrev pub lastUndone : ℕ → World → ℕ → World
 lastUndone base u i =
     let from = length (u .used) - (i + 1) * 16 in
     let group = drop from (u .used) in
     record { now = undo base (decodeAll i group) (u .now); used = take from (u .used); free = replicate (length group) 0 ++ u .free }
 
-data BackEnds (base : ℕ) (u : World) : After (Unit {0}) World → Type 0 where
+-- refused with 12 or 13, nothing changed; or made, where the last i records are sound
+pub data BackEnds (base : ℕ) (u : World) : After (Unit {0}) World → Type 0 where
   none : BackEnds base u (unmade 12 u)
   damaged : BackEnds base u (unmade 13 u)
-  taken : (i : ℕ) → (i + 1) * 16 ≤ length (u .used) → BackEnds base u (made tt (lastUndone base u i))
+  taken : (i : ℕ) → (i + 1) * 16 ≤ length (u .used) → allSound base (u .now) i (drop (length (u .used) - (i + 1) * 16) (u .used)) ≡ true
+      → BackEnds base u (made tt (lastUndone base u i))
 
-back-ends : (base : ℕ) (u : World) → BackEnds base u (takeBack base u)
+pub back-ends : (base : ℕ) (u : World) → BackEnds base u (takeBack base u)
 unfolding takeBack takeEnd takeLast takeGroup
 back-ends base u = used-or (eqb (length (u .used)) 0)
   where
     end : List ℕ
     end = drop (length (u .used) - 16) (u .used)
 
-    sound-or : (i : ℕ) → (i + 1) * 16 ≤ length (u .used) → (t : Bool) → BackEnds base u (elim t [ true ↦ made tt (lastUndone base u i) | false ↦ unmade 13 u ])
-    sound-or i long true = taken i long
-    sound-or i long false = damaged
+    sound-or : (i : ℕ) → (i + 1) * 16 ≤ length (u .used) → (t : Bool) → allSound base (u .now) i (drop (length (u .used) - (i + 1) * 16) (u .used)) ≡ t
+        → BackEnds base u (elim t [ true ↦ made tt (lastUndone base u i) | false ↦ unmade 13 u ])
+    sound-or i long true e = taken i long e
+    sound-or i long false e = damaged
 
     long-or : (i : ℕ) (t : Bool) → leb ((i + 1) * 16) (length (u .used)) ≡ t → let from = length (u .used) - (i + 1) * 16 in
         BackEnds base u (elim t [ true ↦ takeGroup base u i (take from (u .used)) (drop from (u .used)) | false ↦ unmade 13 u ])
-    long-or i true t = sound-or i (leb-true _ _ t) (allSound base (u .now) i (drop (length (u .used) - (i + 1) * 16) (u .used)))
+    long-or i true t = sound-or i (leb-true _ _ t) (allSound base (u .now) i (drop (length (u .used) - (i + 1) * 16) (u .used))) refl
     long-or i false t = damaged
 
     end-or : (t : Bool) → BackEnds base u (elim t [ true ↦ takeLast base u (value end) | false ↦ unmade 13 u ])
@@ -133,7 +136,7 @@ module _ (base : ℕ) {n k : ℕ} where
       by-end : (o : After (Unit {0}) World) → BackEnds base u o → Ending (Lasts n k) o
       by-end _ none = h
       by-end _ damaged = h
-      by-end _ (taken i long) =
+      by-end _ (taken i long _) =
           let from = length (u .used) - (i + 1) * 16 in
           let group = drop from (u .used) in
           let front : length (take from (u .used)) ≡ from = length-take-le from (u .used) (omega arith) in
@@ -202,4 +205,4 @@ back-refused base u n v = by-end (takeBack base u) (back-ends base u)
     by-end : (o : After (Unit {0}) World) → BackEnds base u o → o ≡ unmade n v → (v ≡ u) × (12 ≤ n) × (n ≤ 13)
     by-end _ none e = let p : 12 ≡ n = cc in (cc, omega arith, omega arith)
     by-end _ damaged e = let p : 13 ≡ n = cc in (cc, omega arith, omega arith)
-    by-end _ (taken i long) e = let z : _≡_ {A = ℕ} 0 1 = cc in absurd (omega arith)
+    by-end _ (taken i long _) e = let z : _≡_ {A = ℕ} 0 1 = cc in absurd (omega arith)

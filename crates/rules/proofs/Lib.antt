@@ -31,4 +31,7 @@ pub mod Guards
 pub mod Ends
 pub mod Grown
 pub mod Spares
+pub mod Refusals
+pub mod Stays
+pub mod Hearing
 pub mod Marked

@@ -3,19 +3,18 @@
 use mathlib.Core.Bool.{Bool, false, cond}
 use mathlib.Core.List.{List, [], _∷_, _++_}
 use mathlib.Core.Path.{_≡_, refl}
-use Prim.Native.Nat.{ℕ, _+_, _-_, _*_, _^_}
+use Prim.Native.Nat.{ℕ, _-_, _^_}
 use lib.Count.{trailingZeros}
-use lib.Dec.{eqb}
 use lib.ListN.{replicate}
 use Rattle.rules.specs.declared.Device.{Device}
 use Rattle.rules.specs.declared.Heard.{Heard}
 use Rattle.rules.specs.declared.Heard.the-variants as Heard
 use Rattle.rules.specs.declared.Tcd.{Tcd}
-use Rattle.rules.specs.Act.{Act, Done, Endless, Stage, Fetch, Store, Ask, Put, Look, window, table, acts, KICK, FORCED, SOURCE}
+use Rattle.rules.specs.Act.{Act, Done, Endless, Stage, Fetch, Store, Ask, Put, Look, acts, ERQ, KICK, FORCED, MAJORS, PENDING, SOURCE}
 use Rattle.rules.specs.Bytes.{bytesRules, bytes}
-use Rattle.rules.specs.Calls.{calls, fresh, run, ack, after, afterBack, Told, told, heardLevel, heardVector}
+use Rattle.rules.specs.Calls.{calls, fresh, run, ack, after, afterBack, Told, told, deviceTold, heardLevel, heardVector}
 use Rattle.rules.specs.Carry.{carry}
-use Rattle.rules.specs.Fields.{fields, withField}
+use Rattle.rules.specs.Fields.{fields, holds, withField}
 use Rattle.rules.specs.Lines.{linesRules}
 use Rattle.rules.specs.Minor.{minor, tcdBytes, sourceOffset, minorBytes, minorOffset, transfer, halfway}
 use Rattle.rules.specs.Run.{runs}
@@ -41,28 +40,26 @@ tcd attr nbytes citer biter csr = record {
   csr = csr;
 }
 
--- how many reads of r bytes and writes of w bytes a transfer makes of the window, where every byte reads 0
-unfoldable pub reads : ℕ → {A : Type 0} → Act A → ℕ
-reads r (Done a) = 0
-reads r Endless = 0
-reads r (Stage n k) = reads r k
-reads r (Fetch window a n k) = cond (eqb n r) 1 0 + reads r (k (replicate n 0))
-reads r (Fetch table a n k) = reads r (k (replicate n 0))
-reads r (Store sp a n v k) = reads r k
-reads r (Ask f k) = reads r (k 0)
-reads r (Put f v k) = reads r k
-reads r (Look s k) = reads r (k false)
+-- the widths of the reads of an act, and of its writes, in their order, where every byte reads 0
+unfoldable pub reads : {A : Type 0} → Act A → List ℕ
+reads (Done a) = []
+reads Endless = []
+reads (Stage n k) = reads k
+reads (Fetch sp a n k) = n ∷ reads (k (replicate n 0))
+reads (Store sp a n v k) = reads k
+reads (Ask f k) = reads (k 0)
+reads (Put f v k) = reads k
+reads (Look s k) = reads (k false)
 
-unfoldable pub writes : ℕ → {A : Type 0} → Act A → ℕ
-writes w (Done a) = 0
-writes w Endless = 0
-writes w (Stage n k) = writes w k
-writes w (Fetch sp a n k) = writes w (k (replicate n 0))
-writes w (Store window a n v k) = cond (eqb n w) 1 0 + writes w k
-writes w (Store table a n v k) = writes w k
-writes w (Ask f k) = writes w (k 0)
-writes w (Put f v k) = writes w k
-writes w (Look s k) = writes w (k false)
+unfoldable pub writes : {A : Type 0} → Act A → List ℕ
+writes (Done a) = []
+writes Endless = []
+writes (Stage n k) = writes k
+writes (Fetch sp a n k) = writes (k (replicate n 0))
+writes (Store sp a n v k) = n ∷ writes k
+writes (Ask f k) = writes (k 0)
+writes (Put f v k) = writes k
+writes (Look s k) = writes (k false)
 
 unfoldable pub bit : Bool → ℕ
 bit b = cond b 1 0
@@ -74,6 +71,13 @@ ringing = withField (SOURCE 2 63) 7 (withField (FORCED 2) (2 ^ 63) (fresh false)
 unfoldable pub heardOf : Told → List ℕ
 heardOf (told n heard d w s j u) = n ∷ heardLevel heard ∷ heardVector heard ∷ []
 
+-- channel 0 with this `citer`, asked for one pass: its majors after it
+unfoldable pub onePass : ℕ → Device
+onePass citer = withField KICK 1 (withField ERQ 1 (withField (PENDING 0) 1 (withTable (fresh false) (tcdBytes (tcd 0x0202 4 citer citer 0) ++ replicate 2016 0))))
+
+unfoldable pub majorsAfter : ℕ → ℕ
+majorsAfter citer = holds (MAJORS 0) (deviceTold (after (run 0 0) 0x80000000 (onePass citer) (replicate 8 0) [] (replicate 512 0) 0))
+
 unfoldable pub marked : List (List ℕ)
 marked =
     (moduloAdd 0x80000FFE 4 4 ∷ [])
@@ -82,13 +86,15 @@ marked =
     ∷ (countOf 0x8205 ∷ linkOf 0x8205 ∷ recount 0x8205 (countOf 0x8205 - 1) ∷ [])
     ∷ (recount 0x8201 (countOf 0x8201 - 1) ∷ countOf 0x8200 ∷ [])
     ∷ (minorBytes 0x80 (tcd 0 0xBFFFFC08 1 1 0) ∷ bit (sourceOffset 0x80 (tcd 0 0xBFFFFC08 1 1 0)) ∷ minorOffset (tcd 0 0xBFFFFC08 1 1 0) ∷ minorBytes 0 (tcd 0 0xBFFFFC08 1 1 0) ∷ [])
-    ∷ (reads 1 (transfer (tcd 0x0002 3 1 1 0) 3) ∷ writes 4 (transfer (tcd 0x0002 3 1 1 0) 3) ∷ [])
-    ∷ (4 * reads 4 (transfer (tcd 0x0201 6 1 1 0) 6) ∷ writes 2 (transfer (tcd 0x0201 6 1 1 0) 6) ∷ [])
+    ∷ reads (transfer (tcd 0x0002 3 1 1 0) 3)
+    ∷ writes (transfer (tcd 0x0002 3 1 1 0) 3)
+    ∷ reads (transfer (tcd 0x0201 6 1 1 0) 6)
+    ∷ writes (transfer (tcd 0x0201 6 1 1 0) 6)
     ∷ (bit (halfway (tcd 0 0 1 1 4) 0) ∷ bit (halfway (tcd 0 0 5 5 4) 3) ∷ bit (halfway (tcd 0 0 5 5 4) 2) ∷ bit (halfway (tcd 0 0 5 5 4) 1) ∷ [])
     ∷ heardOf (after (ack 7) 0 ringing [] [] (replicate 64 0) 0)
     ∷ []
 
--- 0xFFFFFFFF is -1 in a sum that wraps at 2^32
+-- a row for each, of P7 and P8 one for what is read and one for what is written; 0xFFFFFFFF is -1 in a sum that wraps at 2^32
 pub P1-P10 : marked
     ≡ (0x80000FF2 ∷ [])
     ∷ (2 ∷ [])
@@ -96,13 +102,20 @@ pub P1-P10 : marked
     ∷ (5 ∷ 1 ∷ 0x8204 ∷ [])
     ∷ (0x8200 ∷ 0 ∷ [])
     ∷ (8 ∷ 1 ∷ 0xFFFFFFFF ∷ 4194304 ∷ [])
-    ∷ (3 ∷ 0 ∷ [])
-    ∷ (8 ∷ 4 ∷ [])
+    ∷ (1 ∷ 1 ∷ 1 ∷ [])
+    ∷ []
+    ∷ (4 ∷ 4 ∷ [])
+    ∷ (2 ∷ 2 ∷ 2 ∷ 2 ∷ [])
     ∷ (0 ∷ 0 ∷ 1 ∷ 0 ∷ [])
     ∷ (0 ∷ 7 ∷ 255 ∷ [])
     ∷ []
 unfolding marked tcd reads writes bit ringing heardOf acts bytesRules words fields carry minor runs linesRules calls
 P1-P10 = refl
+
+-- P5: one pass of 0x8201 is a major end, and one of 0x8202 is not
+pub P5-major-end : majorsAfter 0x8201 ∷ majorsAfter 0x8202 ∷ [] ≡ 1 ∷ 0 ∷ []
+unfolding majorsAfter onePass tcd trailingZeros acts bytesRules words fields carry minor runs linesRules calls
+P5-major-end = refl
 
 -- ---- run only
 

@@ -1,5 +1,5 @@
--- Masks of bits (`specs/Words.antt`), said of `bit`: each bit of a mask that gained, lost or was cut; bounds; the lowest and the highest
--- set bit. Assumes nothing.
+-- Masks of bits (`specs/Words.antt`), said of `bit`: each bit of a mask that gained, lost or was cut; bounds; the lowest set bit.
+-- Assumes nothing.
 use mathlib.Core.Path.{_≡_, refl, sym, ap, ap₂, _∙_, subst}
 use Prim.Native.Nat.{ℕ, zero, suc, _+_, _-_, _*_, _/_, _%_, _^_, _≤_, _<_, min}
 use native.Mathlib.Nat.{one-mul, pow-suc, pow-succ', div-one, div-self, div-eq-of-lt, div-div-eq-div-mul, div-eq-of-lt-le, zero-lt-suc, le-of-suc-le-suc, lt-of-lt-of-le, mul-mod-left, mul-div-cancel, zero-div, mod-lt, sub-le, sub-zero}
@@ -7,8 +7,8 @@ use native.Mathlib.Omega.{arith}
 use lib.Arith.{digits-mod, digits-div, lt-of-le-ne, lt-one}
 use lib.Pow.{pow-pos, pow-lt, pow-mono}
 use lib.Bits.{bitAnd, and-step, or-lt, and-le-l}
-use lib.Count.{trailingZeros, leadingZeros, under, trailing-le, leading-top}
-use Rattle.rules.specs.Words.{gain, lose, without, lowest, highest}
+use lib.Count.{trailingZeros, under, trailing-le}
+use Rattle.rules.specs.Words.{gain, lose, without, lowest}
 
 -- bit i of m, 0 or 1: what `has` asks
 abbrev pub bit : ℕ → ℕ → ℕ
@@ -174,35 +174,3 @@ module _ (m : ℕ) (h : 0 < m) (g : m < 2 ^ 64) where
     where
       apart : (n : ℕ) → n ≡ 0 → n ≡ 1 → ⊥
       apart n p q = omega arith
-
-  -- ---- the highest set bit
-
-  -- the zeros above it leave room for it, and m lies between its power and the next
-  pub highest-is : (leadingZeros 64 m ≤ 63) × (2 ^ highest m ≤ m) × (m < 2 ^ suc (highest m))
-  unfolding highest
-  highest-is =
-      let t = leading-top 64 m h g in
-      let e : 63 - leadingZeros 64 m ≡ t .0 = place (leadingZeros 64 m) (t .0) (t .1) in
-      (room (leadingZeros 64 m) (t .0) (t .1), subst (λ (j : ℕ). 2 ^ j ≤ m) (sym e) (t .2), subst (λ (j : ℕ). m < 2 ^ suc j) (sym e) (t .3))
-    where
-      place : (l j : ℕ) → l + suc j ≡ 64 → 63 - l ≡ j
-      place l j e = omega arith
-
-      room : (l j : ℕ) → l + suc j ≡ 64 → l ≤ 63
-      room l j e = omega arith
-
-  pub bit-highest : bit m (highest m) ≡ 1
-  bit-highest =
-      ap (λ (n : ℕ). n % 2)
-      (div-eq-of-lt-le {k = 1} (2 ^ highest m) (subst (λ (n : ℕ). n ≤ m) (sym (one-mul (2 ^ highest m))) (highest-is .1))
-      (subst (λ (n : ℕ). m < n) (pow-succ' 2 (highest m)) (highest-is .2)))
-
-  pub above-highest : (j : ℕ) → highest m < j → bit m j ≡ 0
-  above-highest j k = ap (λ (n : ℕ). n % 2) (div-eq-of-lt (lt-of-lt-of-le (highest-is .2) (pow-mono k)))
-
-pub highest-lt : (m : ℕ) → highest m < 64
-unfolding highest
-highest-lt m = below (leadingZeros 64 m)
-  where
-    below : (l : ℕ) → 63 - l < 64
-    below l = omega arith

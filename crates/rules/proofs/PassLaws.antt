@@ -46,8 +46,9 @@ unit-legal : (code : ℕ) → legal window (unitOf (sizeOf code)) ≡ true
 unfolding sizeOf
 unit-legal code = unit-of-code (code % 8)
 
--- the window may be fetched and stored to in units
+-- any staging may be needed, and the window fetched and stored to in units
 pub record OnWindow (r : Rights) : Type 0 where
+  pub stage-any : (n : ℕ) → r .may-stage n
   pub fetch-unit : (a n : ℕ) → legal window n ≡ true → r .may-fetch window a n
   pub store-unit : (a n : ℕ) → legal window n ≡ true → r .may-store window a n
 
@@ -105,7 +106,7 @@ module _ {r : Rights} (w : OnWindow r) where
       each-cond (eqb (ssize t) (dsize t))
       (λ _. sizes-each _ _ _ _ _ _ _ _ (unit-legal _))
       (λ _. do
-        _ ← each-stage _
+        _ ← each-stage _ (w .stage-any _)
         (s, got) ← read-sizes-each _ _ _ _ _ [] (unit-legal _)
         d ← write-sizes-each _ _ _ _ _ got 0 (unit-legal _)
         at-done)
@@ -288,6 +289,7 @@ recount-law raw n h l = either (linked raw) refl l
 
 unfoldable pub sparingMajors : ℕ → Rights
 sparingMajors ch = record {
+  may-stage = λ n. Unit {0};
   may-fetch = λ sp a n. Unit {0};
   may-store = λ sp a n. Unit {0};
   may-put = λ f. (v : ℕ) (d : Device) → holds (MAJORS ch) (withField f v d) ≡ holds (MAJORS ch) d;
@@ -307,7 +309,7 @@ link-beside ch to f = side (ltb to ch) refl
     side false e = inr (omega (arith, ltb-false to ch e))
 
 unfoldable pub sparingCount : ℕ → Rights
-sparingCount ch = record { may-fetch = λ sp a n. Unit {0}; may-store = Beside ch; may-put = λ f. Unit {0} }
+sparingCount ch = record { may-stage = λ n. Unit {0}; may-fetch = λ sp a n. Unit {0}; may-store = Beside ch; may-put = λ f. Unit {0} }
 
 abbrev pub Majors : ℕ → ℕ → World → Type 0
 Majors ch x u = holds (MAJORS ch) (u .now .dev) ≡ x
@@ -387,7 +389,7 @@ module _ {base staging : ℕ} (ch : ℕ) (h : ch < 64) where
       leads-then (leads-majors x v q) λ _ w o.
       majors-kept ch ((x + 1) % 2 ^ 64)
       (do
-        reload-each ch t (record { fetch-unit = λ a n l. tt; store-unit = λ a n l. tt }) (λ a n l b k. tt) (λ v d. refl)
+        reload-each ch t (record { stage-any = λ n. tt; fetch-unit = λ a n l. tt; store-unit = λ a n l. tt }) (λ a n l b k. tt) (λ v d. refl)
         flags-each ch (t .csr) (λ v d. refl) (λ v d. refl)
         link-each ch (has (t .csr) MAJORELINK) (t .csr / 2 ^ 8 % 2 ^ 6) tt (λ _. tt) (λ v d. refl))
       w o
@@ -447,6 +449,6 @@ module _ {base staging : ℕ} (ch : ℕ) (h : ch < 64) where
       leads-cond (eqb (countOf (t .citer)) 0)
       (λ _. leads-done (λ e. absurd (false≢true e)))
       (λ e.
-      leads-bind (majors-kept ch x (transfer-each (record { fetch-unit = λ a n l. tt; store-unit = λ a n l. tt }) t _) w o) λ sd y k.
+      leads-bind (majors-kept ch x (transfer-each (record { stage-any = λ n. tt; fetch-unit = λ a n l. tt; store-unit = λ a n l. tt }) t _) w o) λ sd y k.
       leads-then (minor-counts t _ _ x y (omega (arith, q .0)) (omega (arith, eqb-false (countOf (t .citer)) 0 e)) k) λ _ z i.
       leads-done (λ _. rw (q .0) at i))

@@ -1,5 +1,5 @@
--- Which of the device's arrays an act can change: what it has no right to put, it spares. The arrays by number: 0 busy, 1 majors, 2 pending,
--- 3 the levels of the controllers' sources, 4 taken. Assumes nothing.
+-- The acts without a window: they need no staging and keep to the table; and which of the device's arrays each can change: what it has no right to
+-- put, it spares. The arrays by number: 0 busy, 1 majors, 2 pending, 3 the levels of the controllers' sources, 4 taken. Assumes nothing.
 use mathlib.Core.Bool.{Bool, true, false, cond, _&&_, false≢true}
 use mathlib.Core.List.{List, [], _∷_}
 use mathlib.Core.Option.{Option}
@@ -60,8 +60,13 @@ arrayOf (PENDING ch) = 3
 arrayOf (SOURCE c s) = 4
 arrayOf (TAKEN i) = 5
 
+-- no window
+abbrev pub Aside : Space → Type 0
+Aside window = ⊥
+Aside table = Unit {0}
+
 abbrev pub sparing : (ℕ → Bool) → Rights
-sparing t = record { may-fetch = λ sp a n. Unit {0}; may-store = λ sp a n. Unit {0}; may-put = λ f. Allowed t (arrayOf f) }
+sparing t = record { may-stage = λ n. ⊥; may-fetch = λ sp a n. Aside sp; may-store = λ sp a n. Aside sp; may-put = λ f. Allowed t (arrayOf f) }
 
 -- ---- one step
 

@@ -13,24 +13,23 @@ use Rattle.rules.proofs.Keeps.{Good}
 use Rattle.rules.proofs.Back.{groupBytes, takenBack, take-back, take-none}
 use Rattle.rules.proofs.Free.{Seen, seen, Agree, AgreeAfter, perform-agrees}
 use Rattle.rules.proofs.Took.{Led, total, Took, accepted, refused}
-use Rattle.rules.proofs.History.{Entry, walk, alone, Laws, history, one-stands, none-iff}
+use Rattle.rules.proofs.History.{Entry, walk, Alone, Laws, history, one-stands, none-iff}
 
 -- a call: what, if anything, keeps it from being made before anything is done (a refusal's number; 0 for a register read), which goes by
--- what is seen and by the length of the room; the staging's length; its act's tree, with any answer
-pub record Call : Type 1 where
-  pub Answer : Type 0
+-- what is seen and by the length of the room; the staging's length; its act's tree, with an answer of any type
+pub record Call (A : Type 0) : Type 0 where
   pub before : World → Option ℕ
   pub before-same : (u v : World) → Agree u v → before u ≡ before v
   pub staging : ℕ
-  pub act : Act Answer
+  pub act : Act A
 
 -- the call as it is made
-unfoldable pub makeCall : (base : ℕ) (c : Call) → World → After (c .Answer) World
+unfoldable pub makeCall : {A : Type 0} → ℕ → Call A → World → After A World
 makeCall base c u = elim (c .before u) [ none ↦ perform base (c .staging) (c .act) u | some n ↦ unmade n u ]
 
-module _ (base : ℕ) (c : Call) where
+module _ {A : Type 0} (base : ℕ) (c : Call A) where
   checked-agree : (b : Option ℕ) (u v : World) → Agree u v
-      → AgreeAfter {A = c .Answer}
+      → AgreeAfter {A = A}
       (elim b [ none ↦ perform base (c .staging) (c .act) u | some n ↦ unmade n u ])
       (elim b [ none ↦ perform base (c .staging) (c .act) v | some n ↦ unmade n v ])
   checked-agree none u v h = perform-agrees base (c .staging) (c .act) u v h
@@ -39,14 +38,14 @@ module _ (base : ℕ) (c : Call) where
   make-agrees : (u v : World) → Agree u v → AgreeAfter (makeCall base c u) (makeCall base c v)
   unfolding makeCall
   make-agrees u v h =
-      subst (λ b. AgreeAfter {A = c .Answer} (makeCall base c u) (elim b [ none ↦ perform base (c .staging) (c .act) v | some n ↦ unmade n v ])) (c .before-same u v h)
+      subst (λ b. AgreeAfter {A = A} (makeCall base c u) (elim b [ none ↦ perform base (c .staging) (c .act) v | some n ↦ unmade n v ])) (c .before-same u v h)
       (checked-agree (c .before u) u v h)
 
   -- made from one of two worlds that agree, it is made from the other, with the same answer
-  make-alike : (u w w′ : World) (a : c .Answer) → Agree u w → makeCall base c w ≡ made a w′ → (u′ : World) × (makeCall base c u ≡ made a u′) × Agree u′ w′
+  make-alike : (u w w′ : World) (a : A) → Agree u w → makeCall base c w ≡ made a w′ → (u′ : World) × (makeCall base c u ≡ made a u′) × Agree u′ w′
   make-alike u w w′ a h e = same (makeCall base c u) refl (subst (AgreeAfter (makeCall base c u)) e (make-agrees u w h))
     where
-      same : (o : After (c .Answer) World) → makeCall base c u ≡ o → AgreeAfter o (made a w′) → (u′ : World) × (makeCall base c u ≡ made a u′) × Agree u′ w′
+      same : (o : After A World) → makeCall base c u ≡ o → AgreeAfter o (made a w′) → (u′ : World) × (makeCall base c u ≡ made a u′) × Agree u′ w′
       same (made b u′) p k = (u′, p ∙ ap (λ x. made x u′) (k .0), k .1)
       same (unmade n u′) p k = absurd k
 
@@ -55,17 +54,17 @@ module _ (base : ℕ) (c : Call) where
   unfolding makeCall cleared
   make-unmade u n v = checked (c .before u)
     where
-      checked : (b : Option ℕ) → _≡_ {A = After (c .Answer) World} (elim b [ none ↦ perform base (c .staging) (c .act) u | some k ↦ unmade k u ]) (unmade n v) → Agree v u
+      checked : (b : Option ℕ) → _≡_ {A = After A World} (elim b [ none ↦ perform base (c .staging) (c .act) u | some k ↦ unmade k u ]) (unmade n v) → Agree v u
       checked none e =
           subst (λ w. Agree w u) (sym (refused base (c .staging) (c .act) u n v e)) (record { seen-is = refl; room-is = length-replicate (length (u .free)) 0 })
       checked (some k) e = let p : u ≡ v = cc in rw p (record { seen-is = refl; room-is = refl })
 
   -- made, it adds one group
-  make-made : (u : World) → Good base (u .now) → total u ≤ 2 ^ 28 → (a : c .Answer) (v : World) → makeCall base c u ≡ made a v → Took base u v
+  make-made : (u : World) → Good base (u .now) → total u ≤ 2 ^ 28 → (a : A) (v : World) → makeCall base c u ≡ made a v → Took base u v
   unfolding makeCall
   make-made u g small a v = checked (c .before u)
     where
-      checked : (b : Option ℕ) → _≡_ {A = After (c .Answer) World} (elim b [ none ↦ perform base (c .staging) (c .act) u | some k ↦ unmade k u ]) (made a v) → Took base u v
+      checked : (b : Option ℕ) → _≡_ {A = After A World} (elim b [ none ↦ perform base (c .staging) (c .act) u | some k ↦ unmade k u ]) (made a v) → Took base u v
       checked none e = accepted base u g small (c .staging) (c .act) a v e
       checked (some k) e = let z : _≡_ {A = ℕ} 0 1 = cc in absurd (omega arith)
 
@@ -73,14 +72,16 @@ module _ (base : ℕ) (c : Call) where
 abbrev pub refusesWith : ℕ → World → After (Unit {0}) World
 refusesWith n u = unmade n u
 
-module _ {C : Type 0} (callOf : C → Call) (base : ℕ) where
-  abbrev pub make : (c : C) → World → After (callOf c .Answer) World
+module _ {A C : Type 0} (callOf : C → Call A) (base : ℕ) where
+  abbrev pub make : C → World → After A World
   make c u = makeCall base (callOf c) u
 
   -- a window that no call takes (refusal 5): no take-back is ever made, and every call made stands
   pub never-back : (n : ℕ) (start : World) (row : List (Entry C))
-      → let s = walk make (refusesWith n) start row in seen (s .here) ≡ seen (alone make start (s .standing))
-  never-back n start row = ap (λ (o : Seen × ℕ). o .0) (history make (refusesWith n) told (λ os w. Unit {0}) start laws row)
+      → let s = walk make (refusesWith n) start row in (w : World) × Alone make start (s .standing) w × (seen (s .here) ≡ seen w)
+  never-back n start row =
+      let h = history make (refusesWith n) told (λ os w. Unit {0}) start laws row in
+      (h .0, h .1, ap (λ (o : Seen × ℕ). o .0) (h .2))
     where
       -- what is seen, and the length of the room
       told : World → Seen × ℕ
@@ -178,14 +179,16 @@ module _ {C : Type 0} (callOf : C → Call) (base : ℕ) where
     whole : (o : Seen) (os : List Seen) (w : World) → Leads (o ∷ os) w → (b : Unit {0}) × (w′ : World) × (takeBack base w ≡ made b w′)
     whole o os w h = let r = back-led o os w h in (tt, r .0, r .1)
 
-    -- window, device and used journal are what the standing calls, made alone in order, give
-    pub standing-alone : (row : List (Entry C)) → let s = walk make (takeBack base) start row in seen (s .here) ≡ seen (alone make start (s .standing))
+    -- the standing calls, made alone in order, are made, answer the same, and give window, device and used journal
+    pub standing-alone : (row : List (Entry C)) → let s = walk make (takeBack base) start row in (w : World) × Alone make start (s .standing) w × (seen (s .here) ≡ seen w)
     standing-alone row = history make (takeBack base) seen Leads start laws row
 
     -- where one stands, a take-back undoes the last
-    pub undoes-last : (row : List (Entry C)) (c : C) (cs : List C) → let s = walk make (takeBack base) start row in s .standing ≡ c ∷ cs
-        → (w : World) × (takeBack base (s .here) ≡ made tt w) × (seen w ≡ seen (alone make start cs))
-    undoes-last row c cs e = let r = one-stands make (takeBack base) seen Leads start laws whole row c cs e in (r .1, r .2, r .3)
+    pub undoes-last : (row : List (Entry C)) (c : C × A) (cs : List (C × A)) → let s = walk make (takeBack base) start row in s .standing ≡ c ∷ cs
+        → (w u : World) × (takeBack base (s .here) ≡ made tt w) × Alone make start cs u × (seen w ≡ seen u)
+    undoes-last row c cs e =
+        let r = one-stands make (takeBack base) seen Leads start laws whole row c cs e in
+        (r .1, r .2, r .3, r .4, r .5)
 
     -- and it is refused as having nothing to take back exactly if none stands
     pub refused-12 : (row : List (Entry C)) → let s = walk make (takeBack base) start row in (takeBack base (s .here) ≡ unmade 12 (s .here)) ↔ (s .standing ≡ [])

@@ -1,44 +1,93 @@
--- Two answers of an act that tell the same are the same, with what is there beside them: every contract over `toldActed` fixes its outcome.
--- Assumes nothing.
+-- Two answers that tell the same are the same, with what is there beside them: every contract over `toldActed`, `toldHeard` or `toldReading` fixes
+-- its outcome. Assumes nothing.
 use mathlib.Core.List.{List, [], _∷_}
 use mathlib.Core.Path.{_≡_, refl, sym, ap, _∙_}
-use Prim.Native.Nat.{ℕ}
+use Prim.Native.Nat.{ℕ, _-_}
+use native.Mathlib.Omega.{arith}
 use lib.ListN.{getD}
-use Rattle.rules.specs.Calls.{toldActed, verdictNumber}
+use Rattle.rules.specs.Calls.{refusalNumber, verdictNumber, toldActed, toldHeard, toldReading}
+use Rattle.rules.specs.declared.Acknowledged.{Acknowledged}
 use Rattle.rules.specs.declared.Acted.{Acted}
-use Rattle.rules.specs.declared.Refusal.the-variants.{Size, Address, Register, Crossing, Window, Journal, Time, Channel, Outside, Staging, Room, NothingStands, Damaged}
+use Rattle.rules.specs.declared.Reading.{Reading}
+use Rattle.rules.specs.declared.Reading.the-variants as Reading
+use Rattle.rules.specs.declared.Refusal.{Refusal}
+use Rattle.rules.specs.declared.Refusal.the-variants as Refusal
 use Rattle.rules.specs.declared.Verdict.{Verdict}
-use Rattle.rules.specs.declared.Verdict.the-variants.{Accepted, Refused}
+use Rattle.rules.specs.declared.Verdict.the-variants as Verdict
 
--- the verdict of a number
-verdictOf : ℕ → Verdict
-verdictOf n =
-    getD
-    (Accepted ∷ Refused Size ∷ Refused Address ∷ Refused Register ∷ Refused Crossing ∷ Refused Window ∷ Refused Journal ∷ Refused Time ∷ Refused Channel ∷ Refused Outside ∷ Refused Staging ∷ Refused Room ∷ Refused NothingStands ∷ Refused Damaged ∷ [])
-    n Accepted
+-- ---- the refusal of a number
 
-from-number : (v : Verdict) → verdictOf (verdictNumber v) ≡ v
-unfolding verdictOf
-from-number Accepted = refl
-from-number (Refused Size) = refl
-from-number (Refused Address) = refl
-from-number (Refused Register) = refl
-from-number (Refused Crossing) = refl
-from-number (Refused Window) = refl
-from-number (Refused Journal) = refl
-from-number (Refused Time) = refl
-from-number (Refused Channel) = refl
-from-number (Refused Outside) = refl
-from-number (Refused Staging) = refl
-from-number (Refused Room) = refl
-from-number (Refused NothingStands) = refl
-from-number (Refused Damaged) = refl
+refusals : List Refusal
+refusals =
+    Refusal.Size ∷ Refusal.Address ∷ Refusal.Register ∷ Refusal.Crossing ∷ Refusal.Window ∷ Refusal.Journal ∷ Refusal.Time ∷ Refusal.Channel ∷ Refusal.Outside
+    ∷ Refusal.Staging ∷ Refusal.Room ∷ Refusal.NothingStands ∷ Refusal.Damaged ∷ []
 
--- the answer, window, staging and journal
+-- the first one has number 1
+refusalAt : ℕ → Refusal
+refusalAt n = getD refusals (n - 1) Refusal.Size
+
+refusal-back : (r : Refusal) → refusalAt (refusalNumber r) ≡ r
+unfolding refusalAt refusals
+refusal-back Refusal.Size = refl
+refusal-back Refusal.Address = refl
+refusal-back Refusal.Register = refl
+refusal-back Refusal.Crossing = refl
+refusal-back Refusal.Window = refl
+refusal-back Refusal.Journal = refl
+refusal-back Refusal.Time = refl
+refusal-back Refusal.Channel = refl
+refusal-back Refusal.Outside = refl
+refusal-back Refusal.Staging = refl
+refusal-back Refusal.Room = refl
+refusal-back Refusal.NothingStands = refl
+refusal-back Refusal.Damaged = refl
+
+-- no refusal has number 0
+refusal-counts : (r : Refusal) → refusalNumber r ≡ 0 → ⊥
+refusal-counts Refusal.Size e = omega arith
+refusal-counts Refusal.Address e = omega arith
+refusal-counts Refusal.Register e = omega arith
+refusal-counts Refusal.Crossing e = omega arith
+refusal-counts Refusal.Window e = omega arith
+refusal-counts Refusal.Journal e = omega arith
+refusal-counts Refusal.Time e = omega arith
+refusal-counts Refusal.Channel e = omega arith
+refusal-counts Refusal.Outside e = omega arith
+refusal-counts Refusal.Staging e = omega arith
+refusal-counts Refusal.Room e = omega arith
+refusal-counts Refusal.NothingStands e = omega arith
+refusal-counts Refusal.Damaged e = omega arith
+
+refusal-once : (r s : Refusal) → refusalNumber r ≡ refusalNumber s → r ≡ s
+refusal-once r s e = sym (refusal-back r) ∙ ap refusalAt e ∙ refusal-back s
+
+verdict-once : (v w : Verdict) → verdictNumber v ≡ verdictNumber w → v ≡ w
+verdict-once Verdict.Accepted Verdict.Accepted e = refl
+verdict-once Verdict.Accepted (Verdict.Refused s) e = absurd (refusal-counts s (sym e))
+verdict-once (Verdict.Refused r) Verdict.Accepted e = absurd (refusal-counts r e)
+verdict-once (Verdict.Refused r) (Verdict.Refused s) e = ap (λ x. Verdict.Refused x) (refusal-once r s e)
+
+-- ---- an act: the answer, window, staging and journal
+
 pub told-once : (a b : Acted) {w x s t i j : List ℕ} → toldActed a w s i ≡ toldActed b x t j → (a ≡ b) × (w ≡ x) × (s ≡ t) × (i ≡ j)
 told-once a b e =
-    let number : verdictNumber (a .verdict) ≡ verdictNumber (b .verdict) = cc in
-    let verdict : a .verdict ≡ b .verdict = sym (from-number (a .verdict)) ∙ ap verdictOf number ∙ from-number (b .verdict) in
-    let used : a .used ≡ b .used = cc in
-    let device : a .device ≡ b .device = cc in
-    (λ k. record { verdict = verdict k; used = used k; device = device k }, cc, cc, cc)
+    let verdict : a .verdict ≡ b .verdict = verdict-once (a .verdict) (b .verdict) (cc e) in
+    let used : a .used ≡ b .used = cc e in
+    let device : a .device ≡ b .device = cc e in
+    (λ k. record { verdict = verdict k; used = used k; device = device k }, cc e, cc e, cc e)
+
+-- an acknowledge
+pub heard-once : (a b : Acknowledged) {w x s t i j : List ℕ} → toldHeard a w s i ≡ toldHeard b x t j → (a ≡ b) × (w ≡ x) × (s ≡ t) × (i ≡ j)
+heard-once a b e =
+    let verdict : a .verdict ≡ b .verdict = verdict-once (a .verdict) (b .verdict) (cc e) in
+    let heard : a .heard ≡ b .heard = cc e in
+    let used : a .used ≡ b .used = cc e in
+    let device : a .device ≡ b .device = cc e in
+    (λ k. record { verdict = verdict k; heard = heard k; used = used k; device = device k }, cc e, cc e, cc e)
+
+-- a register read
+pub reading-once : (a b : Reading) → toldReading a ≡ toldReading b → a ≡ b
+reading-once (Reading.Value v) (Reading.Value w) e = let p : v ≡ w = cc e in ap (λ x. Reading.Value x) p
+reading-once (Reading.Value v) (Reading.Refused s) e = let p : 0 ≡ refusalNumber s = cc e in absurd (refusal-counts s (sym p))
+reading-once (Reading.Refused r) (Reading.Value w) e = let p : refusalNumber r ≡ 0 = cc e in absurd (refusal-counts r p)
+reading-once (Reading.Refused r) (Reading.Refused s) e = ap (λ x. Reading.Refused x) (refusal-once r s (cc e))

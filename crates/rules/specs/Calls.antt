@@ -195,6 +195,22 @@ wrongRead d address size =
 pub data Told : Type 0 where
   told : ℕ → Heard → Device → List ℕ → List ℕ → List ℕ → ℕ → Told
 
+-- its parts
+abbrev pub numberTold : Told → ℕ
+numberTold (told n heard d window staging journal used) = n
+
+abbrev pub heardTold : Told → Heard
+heardTold (told n heard d window staging journal used) = heard
+
+abbrev pub deviceTold : Told → Device
+deviceTold (told n heard d window staging journal used) = d
+
+abbrev pub windowTold : Told → List ℕ
+windowTold (told n heard d window staging journal used) = window
+
+abbrev pub journalTold : Told → List ℕ
+journalTold (told n heard d window staging journal used) = journal
+
 -- what an answer tells, with window, staging and journal as they are then
 abbrev pub toldActed : Acted → List ℕ → List ℕ → List ℕ → Told
 toldActed r window staging journal = told (verdictNumber (r .verdict)) Heard.Nothing (r .device) window staging journal (r .used)
@@ -255,6 +271,10 @@ afterRead d address size =
     elim (wrongRead d address size) [ zero ↦ toldRead 0 (orZero (readAt d address size)) | suc n ↦ toldRead (suc n) 0 ]
 
 -- on an `unfolding` line: all the definitions of this file
+unfoldable pub refusals : Unit {0}
+unfolding badSize isNone badWindow badJournal badTime check wrong wrongBack wrongRead
+refusals = tt
+
 unfoldable pub calls : Unit {0}
-unfolding freshController fresh setInputs setPending orNothing levelled actOf badSize isNone badWindow badJournal badTime check wrong wrongBack wrongRead stagingAfter toldAfter after heardNothing afterBack orZero afterRead
+unfolding refusals freshController fresh setInputs setPending orNothing levelled actOf stagingAfter toldAfter after heardNothing afterBack orZero afterRead
 calls = tt

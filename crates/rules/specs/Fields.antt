@@ -8,7 +8,9 @@ use lib.ListN.{getD, set, replicate}
 use Rattle.rules.specs.declared.Controller.{Controller}
 use Rattle.rules.specs.declared.Device.{Device}
 use Rattle.rules.specs.Act.{Field, CR, ERQ, EEI, INT, ERR, KICK, DEFERRED, DEADLINE, LEVEL, STANDING, MASKS, FORCED, LINES, CONFIG, BUSY, MAJORS, PENDING, SOURCE, TAKEN, Setting, IGNORE}
-use Rattle.rules.specs.With.{withCr, withErq, withEei, withInt, withErr, withKick, withDeferred, withDeadline, withStanding, withLevel, withBusy, withMajors, withPending, withControllers, withTaken, withMasks, withForced, withLines, withConfig, withLevels}
+use Rattle.rules.specs.With.{withCr, withErq, withEei, withInt, withErr, withKick, withDeferred, withDeadline, withStanding, withLevel}
+use Rattle.rules.specs.With.{withBusy, withMajors, withPending, withControllers, withTaken}
+use Rattle.rules.specs.With.{withMasks, withForced, withLines, withConfig, withLevels}
 
 -- ---- by name
 

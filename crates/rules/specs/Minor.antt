@@ -288,6 +288,14 @@ pass ch = do
         done true)
 
 -- on an `unfolding` line: all the definitions of this file
+unfoldable pub descriptors : Unit {0}
+unfolding tcdOf tcdBytes descriptor storeWords storeWhole ssize dsize smod dmod sourceOffset destOffset capped minorBytes minorOffset offset
+descriptors = tt
+
+unfoldable pub transfers : Unit {0}
+unfolding moveUnit moveUnits moveSizes readUnit readUnits readSizes writeUnits writeSizes moveUnequal transfer
+transfers = tt
+
 unfoldable pub minor : Unit {0}
-unfolding tcdOf tcdBytes descriptor storeWords storeWhole ssize dsize smod dmod sourceOffset destOffset capped minorBytes minorOffset offset moveUnit moveUnits moveSizes readUnit readUnits readSizes writeUnits writeSizes moveUnequal transfer link linkTo gather replaced loadNext wound reload flags majorEnd started minorStores halfway minorEnd pass
+unfolding descriptors transfers link linkTo gather replaced loadNext wound reload flags majorEnd started minorStores halfway minorEnd pass
 minor = tt

@@ -250,6 +250,10 @@ unfoldable pub pastWord : ℕ → ℕ → Bool
 pastWord address size = ltb 0 (blockOf address) && within 0x08 0x17 (offsetOf address) && ltb 4 (offsetOf address % 4 + size)
 
 -- on an `unfolding` line: all the definitions of this file
+unfoldable pub writing : Unit {0}
+unfolding bytesIn withBytesIn named flagOne flagEach setRequests setStarts clearDones command commands tableWrite pick dmaArms dmaWrite levelsWrite controllerArms controllerWrite
+writing = tt
+
 unfoldable pub registers : Unit {0}
-unfolding within inBlocks blockOf offsetOf inTable bytesIn withBytesIn named flagOne flagEach setRequests setStarts clearDones command commands tableWrite pick dmaArms dmaWrite levelsWrite controllerArms controllerWrite writeIn writeAt lookUp dmaCells dmaRead controllerCells controllerRead readIn readAt pastTable pastWord
+unfolding within inBlocks blockOf offsetOf inTable writing writeIn writeAt lookUp dmaCells dmaRead controllerCells controllerRead readIn readAt pastTable pastWord
 registers = tt

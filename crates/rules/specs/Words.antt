@@ -3,7 +3,7 @@ use mathlib.Core.Bool.{Bool, cond}
 use mathlib.Core.List.{[], _∷_}
 use Prim.Native.Nat.{ℕ, _+_, _-_, _*_, _/_, _%_, _^_, min}
 use lib.Bits.{bitAnd, bitOr}
-use lib.Count.{trailingZeros, leadingZeros}
+use lib.Count.{trailingZeros}
 use lib.Dec.{eqb, ltb}
 use lib.ListN.{getD}
 
@@ -22,12 +22,9 @@ without m k = m - bitAnd m k
 unfoldable pub lose : ℕ → ℕ → ℕ
 lose m i = m - bitAnd m (2 ^ i)
 
--- the lowest and the highest set bit of a mask of 64 bits that is not 0
+-- the lowest set bit of a mask of 64 bits that is not 0
 unfoldable pub lowest : ℕ → ℕ
 lowest m = trailingZeros 64 m
-
-unfoldable pub highest : ℕ → ℕ
-highest m = 63 - leadingZeros 64 m
 
 -- ---- sizes
 
@@ -75,5 +72,5 @@ recount raw n = cond (linked raw) (raw / 2 ^ 9 * 2 ^ 9 + n) n
 
 -- on an `unfolding` line: all the definitions of this file
 unfoldable pub words : Unit {0}
-unfolding gain without lose lowest highest sizeOf unitOf wholes wrap32 signed moduloAdd
+unfolding gain without lose lowest sizeOf unitOf wholes wrap32 signed moduloAdd
 words = tt

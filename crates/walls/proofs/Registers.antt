@@ -6,9 +6,9 @@ use Prim.Native.Nat.{_^_}
 use lib.ListN.{getD, replicate}
 use Rattle.rules.specs.declared.Device.{Device}
 use Rattle.rules.specs.Act.{ERQ, EEI, KICK, MASKS, FORCED, PENDING}
-use Rattle.rules.specs.Calls.{fresh, Told, toldRead, afterRead}
+use Rattle.rules.specs.Calls.{fresh, Told, toldRead, afterRead, deviceTold}
 use Rattle.rules.specs.Fields.{withField}
-use Rattle.walls.specs.Wrong.{answerOf, deviceOf, writes}
+use Rattle.walls.specs.Wrong.{answerOf, writes}
 use Rattle.walls.specs.Examples.{written, computed}
 
 -- ---- DMA registers
@@ -40,7 +40,7 @@ four-commands = refl
 unfoldable pub startedAll : Told
 startedAll = writes (0xFC04401E, 1, 0x40) (record { base = 0; device = fresh false; window = []; staging = []; journal = replicate 1056 0; used = 0 })
 
-pub ssrt-all : answerOf startedAll ∷ (getD (deviceOf startedAll .table) 0x1F 0 ∷ getD (deviceOf startedAll .table) 0x7FF 0 ∷ deviceOf startedAll .kick ∷ []) ∷ []
+pub ssrt-all : answerOf startedAll ∷ (getD (deviceTold startedAll .table) 0x1F 0 ∷ getD (deviceTold startedAll .table) 0x7FF 0 ∷ deviceTold startedAll .kick ∷ []) ∷ []
     ≡ (0 ∷ 0 ∷ 0 ∷ 1056 ∷ [])
     ∷ (1 ∷ 1 ∷ 0xFFFFFFFFFFFFFFFF ∷ [])
     ∷ []

@@ -7,9 +7,9 @@ use Prim.Native.Nat.{ℕ}
 use borrow.Author.Tests.{eqb-false}
 use lib.ListN.{replicate, getD, length}
 use Rattle.rules.specs.declared.Heard.the-variants as Heard
-use Rattle.rules.specs.Calls.{fresh, Told, told}
+use Rattle.rules.specs.Calls.{fresh, Told, told, deviceTold, windowTold}
 use Rattle.rules.specs.Carry.{line, endLine}
-use Rattle.walls.specs.Wrong.{Given, deviceOf, windowOf, UndoesOneRecord, takesBack}
+use Rattle.walls.specs.Wrong.{Given, UndoesOneRecord, takesBack}
 use Rattle.walls.specs.Examples.{standing, computed}
 
 module _ (program : Unit {0} → Given → Told) (meets : program tt standing ≡ takesBack tt standing) where
@@ -18,9 +18,9 @@ module _ (program : Unit {0} → Given → Told) (meets : program tt standing �
   unfolding UndoesOneRecord computed
   not-one-record wrong = by-part (wrong tt standing)
     where
-      by-part : (windowOf (program tt standing) ≡ standing .window) ⊎ (deviceOf (program tt standing) ≡ standing .device) → ⊥
-      by-part (inl e) = eqb-false 0 0x11 refl (ap (λ t. getD (windowOf t) 4 0) (sym meets) ∙ ap (λ w. getD w 4 0) e)
-      by-part (inr e) = eqb-false 1 0 refl (ap (λ t. deviceOf t .kick) (sym meets) ∙ ap (λ d. d .kick) e)
+      by-part : (windowTold (program tt standing) ≡ standing .window) ⊎ (deviceTold (program tt standing) ≡ standing .device) → ⊥
+      by-part (inl e) = eqb-false 0 0x11 refl (ap (λ t. getD (windowTold t) 4 0) (sym meets) ∙ ap (λ w. getD w 4 0) e)
+      by-part (inr e) = eqb-false 1 0 refl (ap (λ t. deviceTold t .kick) (sym meets) ∙ ap (λ d. d .kick) e)
 
 -- ---- damage: 13, and all is as it was
 

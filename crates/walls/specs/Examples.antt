@@ -9,7 +9,7 @@ use Rattle.rules.specs.declared.Device.{Device}
 use Rattle.rules.specs.declared.Tcd.{Tcd}
 use Rattle.rules.specs.Act.{acts, Field, ERQ, KICK, PENDING}
 use Rattle.rules.specs.Bytes.{bytesRules}
-use Rattle.rules.specs.Calls.{calls, fresh}
+use Rattle.rules.specs.Calls.{calls, fresh, deviceTold, windowTold, journalTold}
 use Rattle.rules.specs.Carry.{carry}
 use Rattle.rules.specs.Fields.{fields, holds, withField}
 use Rattle.rules.specs.Lines.{linesRules}
@@ -20,7 +20,7 @@ use Rattle.rules.specs.TakeBack.{takes}
 use Rattle.rules.specs.With.{withTable}
 use Rattle.rules.specs.Words.{words}
 use Rattle.rules.proofs.Marked.{tcd, window₀, device₀, journal₀, ran, ringing}
-use Rattle.walls.specs.Wrong.{Given, deviceOf, windowOf, journalOf, writes, wrongs}
+use Rattle.walls.specs.Wrong.{Given, writes, wrongs}
 
 -- a descriptor that moves bytes from 0x80000000 on: attr, nbytes, counts, where to, csr; steps of the size given
 unfoldable pub moving : ℕ → ℕ → ℕ → ℕ → ℕ → ℕ → Tcd
@@ -52,7 +52,7 @@ lent d window staging = record { base = 0x80000000; device = d; window = window;
 
 -- what document 01's 'Run only' left
 unfoldable pub standing : Given
-standing = record { base = 0x80000000; device = deviceOf ran; window = windowOf ran; staging = []; journal = journalOf ran; used = 192 }
+standing = record { base = 0x80000000; device = deviceTold ran; window = windowTold ran; staging = []; journal = journalTold ran; used = 192 }
 
 -- what some fields hold
 unfoldable pub held : Device → List Field → List ℕ
@@ -61,9 +61,13 @@ held d (f ∷ fs) = holds f d ∷ held d fs
 
 -- and after a write of so many bytes at an address
 unfoldable pub written : Device → ℕ → ℕ → ℕ → List Field → List ℕ
-written d address size v fs = held (deviceOf (writes (address, size, v) (lent d [] []))) fs
+written d address size v fs = held (deviceTold (writes (address, size, v) (lent d [] []))) fs
 
 -- on an `unfolding` line: all that computes
+unfoldable pub examples : Unit {0}
+unfolding moving with-channel requesting lent standing held written tcd window₀ device₀ journal₀ ran ringing
+examples = tt
+
 unfoldable pub computed : Unit {0}
-unfolding moving with-channel requesting lent standing held written tcd window₀ device₀ journal₀ ran ringing wrongs trailingZeros acts bytesRules words fields carry minor runs linesRules registers takes calls
+unfolding examples wrongs trailingZeros acts bytesRules words fields carry minor runs linesRules registers takes calls
 computed = tt

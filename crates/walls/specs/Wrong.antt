@@ -6,9 +6,8 @@ use mathlib.Core.Logic.{_⊎_}
 use mathlib.Core.Path.{_≡_}
 use Prim.Native.Nat.{ℕ, _+_, _≤_, _<_}
 use lib.ListN.{getD}
-use Rattle.rules.specs.Calls.{Asked, Told, told, ToldRead, heardLevel, heardVector, after, afterBack, write, inputs, pending, run, service, ack}
+use Rattle.rules.specs.Calls.{Asked, Told, told, ToldRead, heardLevel, heardVector, after, afterBack, write, inputs, pending, run, service, ack, numberTold, deviceTold, windowTold}
 use Rattle.rules.specs.declared.Device.{Device}
-use Rattle.rules.proofs.AgainstTraps.{numberIn}
 use Rattle.rules.proofs.Bench.{readNumber}
 
 -- ---- what a call is given and leaves
@@ -25,38 +24,29 @@ pub record Given : Type 0 where
 unfoldable pub answerOf : Told → List ℕ
 answerOf (told n heard d w s j u) = n ∷ heardLevel heard ∷ heardVector heard ∷ u ∷ []
 
-unfoldable pub deviceOf : Told → Device
-deviceOf (told n heard d w s j u) = d
-
-unfoldable pub windowOf : Told → List ℕ
-windowOf (told n heard d w s j u) = w
-
-unfoldable pub journalOf : Told → List ℕ
-journalOf (told n heard d w s j u) = j
-
 -- ---- wrong programs, for a call that is asked an X
 
 module _ {X : Type 0} (program : X → Given → Told) where
   -- refusing always
   unfoldable pub RefusesAlways : Type 0
-  RefusesAlways = (x : X) (g : Given) → numberIn (program x g) ≡ 0 → ⊥
+  RefusesAlways = (x : X) (g : Given) → numberTold (program x g) ≡ 0 → ⊥
 
   -- one constant answer, wherever it accepts
   unfoldable pub OneAnswer : Type 0
-  OneAnswer = (x y : X) (g h : Given) → numberIn (program x g) ≡ 0 → numberIn (program y h) ≡ 0 → answerOf (program x g) ≡ answerOf (program y h)
+  OneAnswer = (x y : X) (g h : Given) → numberTold (program x g) ≡ 0 → numberTold (program y h) ≡ 0 → answerOf (program x g) ≡ answerOf (program y h)
 
   -- changing nothing
   unfoldable pub ChangesNothing : Type 0
-  ChangesNothing = (x : X) (g : Given) → deviceOf (program x g) ≡ g .device
+  ChangesNothing = (x : X) (g : Given) → deviceTold (program x g) ≡ g .device
 
   -- moving only the first unit, of 4 bytes at the most, or any one
   unfoldable pub MovesOneUnit : Type 0
   MovesOneUnit = (x : X) (g : Given)
-      → (a : ℕ) × ((i : ℕ) → (i < a) ⊎ (a + 4 ≤ i) → getD (windowOf (program x g)) i 0 ≡ getD (g .window) i 0)
+      → (a : ℕ) × ((i : ℕ) → (i < a) ⊎ (a + 4 ≤ i) → getD (windowTold (program x g)) i 0 ≡ getD (g .window) i 0)
 
   -- undoing only the first record, or any one: a record is of the window or of the device
   unfoldable pub UndoesOneRecord : Type 0
-  UndoesOneRecord = (x : X) (g : Given) → (windowOf (program x g) ≡ g .window) ⊎ (deviceOf (program x g) ≡ g .device)
+  UndoesOneRecord = (x : X) (g : Given) → (windowTold (program x g) ≡ g .window) ⊎ (deviceTold (program x g) ≡ g .device)
 
 -- ---- what shuts the first three out: two calls that are accepted and answer differently, the first of which changes the device
 
@@ -65,10 +55,10 @@ pub record Wall {X : Type 0} (rule : X → Given → Told) : Type 0 where
   pub given : Given
   pub second : X
   pub given₂ : Given
-  pub accepted : numberIn (rule first given) ≡ 0
-  pub accepted₂ : numberIn (rule second given₂) ≡ 0
+  pub accepted : numberTold (rule first given) ≡ 0
+  pub accepted₂ : numberTold (rule second given₂) ≡ 0
   pub differ : answerOf (rule first given) ≡ answerOf (rule second given₂) → ⊥
-  pub changes : deviceOf (rule first given) ≡ given .device → ⊥
+  pub changes : deviceTold (rule first given) ≡ given .device → ⊥
 
 -- ---- a register read, of a device, an address and a size, changes nothing
 
@@ -113,5 +103,5 @@ takesBack x g = afterBack (g .base) (g .device) (g .window) (g .journal) (g .use
 
 -- on an `unfolding` line: all the definitions of this file that compute
 unfoldable pub wrongs : Unit {0}
-unfolding numberIn answerOf deviceOf windowOf journalOf acts writes gives counts runs serves hears takesBack
+unfolding answerOf acts writes gives counts runs serves hears takesBack
 wrongs = tt

@@ -4,7 +4,8 @@ ghost use mathlib.Core.Path.{_≡_};
 ghost use Prim.Native.Nat.{_+_, _*_, _^_, _≤_, _<_};
 ghost use lib.ListN.{length};
 ghost use Rattle.rules.specs.Bytes.{bytes, number, part, splice};
-ghost use Rattle.rules.specs.Words.{has, gain, lose, without, lowest, highest, sizeOf, wholes, signed, moduloAdd, linked, countOf, linkOf, recount};
+ghost use Rattle.rules.specs.Words.{has, gain, lose, without, lowest, sizeOf, wholes, signed, moduloAdd, linked, countOf, linkOf, recount};
+ghost use Rattle.words.specs.Highest.{highest};
 ghost use Rattle.words.specs.Sizes.{Sized};
 
 // "Size codes 0, 1, 2, 4, 5 mean 1, 2, 4, 16, 32 bytes; 3, 6, 7 mean 1."

@@ -2,8 +2,8 @@
 use mathlib.Core.Path.{refl}
 use native.Mathlib.Omega.{arith}
 use borrow.Author.Needs.{needs}
-use Rattle.rules.proofs.Masks.{highest-is, highest-lt}
-use Rattle.rules.specs.Words.{highest}
+use Rattle.words.specs.Highest.{highest}
+use Rattle.words.proofs.Highest.{highest-is, highest-lt}
 use Rattle.words.proofs.highest_bit.Statement.{statement}
 use Rattle.words.proofs.highest_bit.Tie as tie
 
