@@ -2,7 +2,7 @@
 use mathlib.Core.List.{List, [], _++_}
 use mathlib.Core.Option.{Option, none, some}
 use mathlib.Core.Path.{_≡_, refl, sym, ap, _∙_, subst, subst₂}
-use Prim.Native.Nat.{ℕ, zero, suc, _+_, _%_}
+use Prim.Native.Nat.{ℕ, zero, suc, _+_, _%_, _≤_}
 use native.Mathlib.Omega.{arith}
 use lib.ListN.{length, take, drop, length-append, take-append-drop}
 use lib.Seq.{length-take-le, take-append-seam, drop-append-seam}
@@ -33,6 +33,21 @@ heldOf u = record { device = u .now .dev; window = u .now .mem; journal = u .use
 
 world-held : (u : World) → worldIn (heldOf u) ≡ u
 world-held u = λ i. record { now = u .now; used = take-append-seam (u .used) (u .free) i; free = drop-append-seam (u .used) (u .free) i }
+
+pub held-world : (h : Held) → h .used ≤ length (h .journal) → heldOf (worldIn h) ≡ h
+held-world h l = λ i. record {
+  device = h .device;
+  window = h .window;
+  journal = take-append-drop (h .used) (h .journal) i;
+  used = length-take-le (h .used) (h .journal) l i;
+}
+
+pub held-lasts : (h : Held) → h .used ≤ length (h .journal) → h .used % 16 ≡ 0 → Lasts (length (h .window)) (length (h .journal)) (worldIn h)
+held-lasts h l whole = record {
+  window-is = refl;
+  journal-is = sym (length-append (take (h .used) (h .journal)) (drop (h .used) (h .journal))) ∙ ap length (take-append-drop (h .used) (h .journal));
+  whole = ap (λ n. n % 16) (length-take-le (h .used) (h .journal) l) ∙ whole;
+}
 
 -- what is compared, of what is seen of a world
 abbrev pub shown : Seen → Held
@@ -143,7 +158,7 @@ module _ (base : ℕ) where
       ap ended (back-wrong base (u .now .dev) (u .now .mem) (u .used ++ u .free) (length (u .used)) n
       (ap (λ k. wrongBack base (length (u .now .mem)) k (length (u .used))) (length-append (u .used) (u .free)) ∙ e))
 
-  make-lasts : {n k : ℕ} (c : RowCall) (u : World) → Lasts n k u → Ending (Lasts n k) (makeWorld c u)
+  pub make-lasts : {n k : ℕ} (c : RowCall) (u : World) → Lasts n k u → Ending (Lasts n k) (makeWorld c u)
   unfolding makeCall
   make-lasts {n} {k} c u h = checked (before base c u)
     where
@@ -160,19 +175,10 @@ AsLong start u = Lasts (length (start .window)) (length (start .journal)) u
 -- from an empty journal
 module _ (base : ℕ) (start : Held) (empty : start .used ≡ 0) where
   first-held : heldOf (worldIn start) ≡ start
-  first-held = λ i. record {
-    device = start .device;
-    window = start .window;
-    journal = take-append-drop (start .used) (start .journal) i;
-    used = length-take-le (start .used) (start .journal) (omega arith) i;
-  }
+  first-held = held-world start (omega arith)
 
   pub first-as-long : AsLong start (worldIn start)
-  first-as-long = record {
-    window-is = refl;
-    journal-is = sym (length-append (take (start .used) (start .journal)) (drop (start .used) (start .journal))) ∙ ap length (take-append-drop (start .used) (start .journal));
-    whole = ap (λ n. length (take n (start .journal)) % 16) empty;
-  }
+  first-as-long = held-lasts start (omega arith) (ap (λ n. n % 16) empty)
 
   -- calls of worlds made alone are calls of the bench made alone
   pub alone-is : {cs : List (RowCall × Heard)} {w : World} → Alone (makeWorld base) (worldIn start) cs w → MadeAlone base start cs (heldOf w)

@@ -24,6 +24,7 @@ pub mod Through
 pub mod Bench
 pub mod BenchWorlds
 pub mod Demand3
+pub mod Along
 pub mod Each
 pub mod Leads
 pub mod PassLaws
