@@ -6,9 +6,9 @@ use mathlib.Core.Path.{_≡_, refl, sym, ap, _∙_}
 use Prim.Native.Nat.{ℕ}
 use Rattle.rules.specs.Calls.{Told}
 use Rattle.rules.specs.declared.Device.{Device}
-use Rattle.rules.proofs.Typed.{Typed}
+use Rattle.rules.proofs.Each.{Proper}
 use Rattle.image.specs.Image.{imageOf, deviceIn, isImage}
-use Rattle.image.proofs.Round.{typed-round}
+use Rattle.image.proofs.Round.{proper-round}
 use Rattle.image.proofs.Rows.{image-is}
 use Rattle.entries.specs.Entry.{Left, left, leftBy, entered}
 
@@ -22,11 +22,11 @@ pub entry-fixed : (l : Left) {r r′ : ℕ} {image image′ window window′ sta
     → (r ≡ r′) × (image ≡ image′) × (window ≡ window′) × (staging ≡ staging′) × (journal ≡ journal′)
 entry-fixed l p q = left-parts (p ∙ sym q)
 
--- on the image of any value of the declared type, whatever the call tells of a device
-pub entry-is-call : (d : Device) → Typed d → (f : Device → Told) (window staging journal : List ℕ) (used : ℕ)
+-- on the image of a proper device, and every value of the declared type is one, whatever the call tells of a device
+pub entry-is-call : (d : Device) → Proper d → (f : Device → Told) (window staging journal : List ℕ) (used : ℕ)
     → entered (imageOf d) window staging journal used (f (deviceIn (imageOf d))) ≡ leftBy (f d)
 unfolding entered
-entry-is-call d g f window staging journal used = let r = typed-round d g in rw (r .0, r .1) refl
+entry-is-call d g f window staging journal used = let r = proper-round d g in rw (r .0, r .1) refl
 
 -- an image whose device a call leaves as it was is left as it was
 pub image-left : (image : List ℕ) (d : Device) → isImage image ≡ true → d ≡ deviceIn image → imageOf d ≡ image

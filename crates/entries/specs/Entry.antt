@@ -1,10 +1,11 @@
 -- What the C entries leave behind (docs/ABI.md): a call of document 01 between two images. Assumes nothing.
 use mathlib.Core.Bool.{cond, _&&_}
 use mathlib.Core.List.{List, []}
+use mathlib.Core.Path.{_≡_}
 use Prim.Native.Nat.{ℕ, zero, suc, _+_, _*_, _%_, _^_}
 use lib.Dec.{eqb, ltb}
 use lib.ListN.{length}
-use Rattle.rules.specs.Calls.{Told, told, ToldRead, toldRead, heardLevel, heardVector, fresh, run, after}
+use Rattle.rules.specs.Calls.{Asked, run, fresh, heardLevel, heardVector, Told, told, after, ToldRead, toldRead}
 use Rattle.rules.specs.declared.Device.{Device}
 use Rattle.image.specs.Image.{imageOf, deviceIn, isImage}
 
@@ -22,6 +23,12 @@ leftBy (told n heard d window staging journal used) = left (packed n (heardLevel
 -- an act or a take-back: 255 where the bytes are no image; else what the call tells
 unfoldable pub entered : List ℕ → List ℕ → List ℕ → List ℕ → ℕ → Told → Left
 entered image window staging journal used t = cond (isImage image) (leftBy t) (left (packed 255 0 0 used) image window staging journal)
+
+-- an act that is not lent a window, nor staging: what it answers and leaves is what the call tells, whatever base, window and staging are, and these
+-- are left as they are
+abbrev pub Aside : Asked → List ℕ → List ℕ → List ℕ → List ℕ → ℕ → ℕ → Type 0
+Aside c image image′ journal journal′ used r = (base : ℕ) (window staging : List ℕ)
+    → left r image′ window staging journal′ ≡ entered image window staging journal used (after c base (deviceIn image) window staging journal used)
 
 -- a register read: the value, 0 after a refusal
 unfoldable pub readBy : ToldRead → ℕ

@@ -10,7 +10,7 @@ ghost use Prim.Native.Nat.{_%_, _^_};
 ghost use lib.ListN.{length};
 ghost use Rattle.rules.specs.Calls.{verdictNumber, heardLevel, heardVector, toldReading, after, afterBack, afterRead, write, inputs, pending, run, service, ack};
 ghost use Rattle.image.specs.Image.{imageOf, deviceIn};
-ghost use Rattle.entries.specs.Entry.{packed, left, entered, readBy, enteredRead, freshened, enteredRuns};
+ghost use Rattle.entries.specs.Entry.{packed, left, entered, Aside, readBy, enteredRead, freshened, enteredRuns};
 
 // ---- answers
 
@@ -101,7 +101,7 @@ pub extern "C" fn kp_write(
     journal: &mut [u8],
     used: u64,
 ) -> u64
-    ensures { λ r. ⌜ left r (now (image .exit)) [] [] (now (journal .exit)) ≡ entered (now (image .entry)) [] [] (now (journal .entry)) used (after (write address size value) 0 (deviceIn (now (image .entry))) [] [] (now (journal .entry)) used) ⌝ }
+    ensures { λ r. ⌜ Aside (write address size value) (now (image .entry)) (now (image .exit)) (now (journal .entry)) (now (journal .exit)) used r ⌝ }
 {
     if !image::is_image(image) {
         return packed(255, 0, 0, used);
@@ -121,7 +121,7 @@ pub extern "C" fn kp_inputs(
     journal: &mut [u8],
     used: u64,
 ) -> u64
-    ensures { λ r. ⌜ left r (now (image .exit)) [] [] (now (journal .exit)) ≡ entered (now (image .entry)) [] [] (now (journal .entry)) used (after (inputs standing lines0 lines1 lines2) 0 (deviceIn (now (image .entry))) [] [] (now (journal .entry)) used) ⌝ }
+    ensures { λ r. ⌜ Aside (inputs standing lines0 lines1 lines2) (now (image .entry)) (now (image .exit)) (now (journal .entry)) (now (journal .exit)) used r ⌝ }
 {
     if !image::is_image(image) {
         return packed(255, 0, 0, used);
@@ -139,7 +139,7 @@ pub extern "C" fn kp_pending(
     journal: &mut [u8],
     used: u64,
 ) -> u64
-    ensures { λ r. ⌜ left r (now (image .exit)) [] [] (now (journal .exit)) ≡ entered (now (image .entry)) [] [] (now (journal .entry)) used (after (pending channel count) 0 (deviceIn (now (image .entry))) [] [] (now (journal .entry)) used) ⌝ }
+    ensures { λ r. ⌜ Aside (pending channel count) (now (image .entry)) (now (image .exit)) (now (journal .entry)) (now (journal .exit)) used r ⌝ }
 {
     if !image::is_image(image) {
         return packed(255, 0, 0, used);
@@ -194,7 +194,7 @@ pub extern "C" fn kp_service(
 // Of `ipl` the low byte counts.
 #[no_mangle]
 pub extern "C" fn kp_acknowledge(image: &mut [u8], ipl: u32, journal: &mut [u8], used: u64) -> u64
-    ensures { λ r. ⌜ left r (now (image .exit)) [] [] (now (journal .exit)) ≡ entered (now (image .entry)) [] [] (now (journal .entry)) used (after (ack (ipl % 2 ^ 8)) 0 (deviceIn (now (image .entry))) [] [] (now (journal .entry)) used) ⌝ }
+    ensures { λ r. ⌜ Aside (ack (ipl % 2 ^ 8)) (now (image .entry)) (now (image .exit)) (now (journal .entry)) (now (journal .exit)) used r ⌝ }
 {
     if !image::is_image(image) {
         return packed(255, 0, 0, used);

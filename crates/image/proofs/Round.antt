@@ -3,21 +3,23 @@ use mathlib.Core.Bool.{Bool, true, false, cond}
 use mathlib.Core.List.{List, [], _∷_, _++_, append-assoc}
 use mathlib.Core.Path.{_≡_, refl, sym, ap, _∙_}
 use Prim.Native.Nat.{ℕ, zero, suc, _+_, _*_, _%_, _^_, _<_}
-use native.Mathlib.Nat.{mod-eq-of-lt, zero-add, add-zero, add-suc, suc-add, not-suc-le-zero, le-of-suc-le-suc, suc-inj}
+use native.Mathlib.Nat.{mod-lt, mod-eq-of-lt, zero-add, add-zero, add-suc, suc-add, not-suc-le-zero, le-of-suc-le-suc, suc-inj}
 use native.Mathlib.Omega.{arith}
 use borrow.Author.Tests.{eq-eqb, leb-true}
 use lib.Dec.{eqb, lit<}
 use lib.ListN.{length, getD, replicate, length-append, List·getD-append}
+use lib.Pow.{pow-pos}
 use lib.Seq.{getD-append-add, getD-at}
 use Rattle.rules.specs.Act.{Field, CR, ERQ, EEI, INT, ERR, KICK, DEFERRED, DEADLINE, LEVEL, STANDING, MASKS, FORCED, LINES, CONFIG, BUSY, MAJORS, PENDING, SOURCE, TAKEN}
-use Rattle.rules.specs.Bytes.{bytes, number, part}
-use Rattle.rules.specs.Fields.{fieldsOf, partsOf, numberOf, bitsOf, holds, controller}
+use Rattle.rules.specs.Bytes.{Bytes, bytes, number, part}
+use Rattle.rules.specs.Fields.{fieldsOf, headOf, partsOf, numberOf, bitsOf, holds, controller}
 use Rattle.rules.specs.declared.Controller.{Controller}
 use Rattle.rules.specs.declared.Device.{Device}
-use Rattle.rules.proofs.BytesLaws.{length-bytes, value-of-bytes}
-use Rattle.rules.proofs.FieldLaws.{sizes, Sound, sized, spot, Real, holds-fits, holds-number, in-three}
+use Rattle.rules.proofs.BytesLaws.{length-bytes, value-of-bytes, length-part, bytes-part}
+use Rattle.rules.proofs.FieldLaws.{sizes, bitParts, Sound, sized, spot, Real, holds-fits, holds-number, in-three}
 use Rattle.rules.proofs.Powers.{low-low}
-use Rattle.rules.proofs.Typed.{Typed, sound, table-size}
+use Rattle.rules.proofs.Each.{Proper}
+use Rattle.rules.proofs.PartLaws.{Within}
 use Rattle.device.proofs.Laws.{some-to-64}
 use Rattle.image.specs.Image.{laid, flagged, imageOf, numberIn, numbersIn, controllerIn, deviceIn, alike, isImage}
 use Rattle.image.proofs.Rows.{device-got, length-joined, total, length-flagged}
@@ -189,6 +191,38 @@ module _ (d : Device) (s : Sound d) (t : length (d .table) ≡ 2048) where
 pub image-only : (d e : Device) → Sound d → Sound e → length (d .table) ≡ 2048 → length (e .table) ≡ 2048 → imageOf d ≡ imageOf e → d ≡ e
 image-only d e s t a b p = sym (image-round d s a) ∙ ap deviceIn p ∙ image-round e t b
 
--- so of every value of the declared type: its image is one, and the device in it is that value
-pub typed-round : (d : Device) → Typed d → (isImage (imageOf d) ≡ true) × (deviceIn (imageOf d) ≡ d)
-typed-round d g = (image-one d (sound d g) (table-size d g), image-round d (sound d g) (table-size d g))
+-- so of every proper device, and every value of the declared type is one: its image is an image, and the device in it is that device
+pub proper-round : (d : Device) → Proper d → (isImage (imageOf d) ≡ true) × (deviceIn (imageOf d) ≡ d)
+proper-round d p = (image-one d (p .sound) (p .size), image-round d (p .sound) (p .size))
+
+-- ---- the device in any bytes is proper
+
+numbers-within : (bits : ℕ) (b : List ℕ) (n k : ℕ) → Within (replicate k bits) (numbersIn bits b n k)
+unfolding numbersIn numberIn
+numbers-within bits b n zero = tt
+numbers-within bits b n (suc k) = (mod-lt (number (part b (2064 + 8 * n) 8)) (pow-pos bits), numbers-within bits b (suc n) k)
+
+zeros-within : (k : ℕ) → Within (replicate k 0) (replicate k 0)
+zeros-within zero = tt
+zeros-within (suc k) = (lit< tt, zeros-within k)
+
+number-within : (bits : ℕ) (b : List ℕ) (n : ℕ) → numberIn bits b n < 2 ^ bits
+unfolding numberIn
+number-within bits b n = mod-lt (number (part b (2064 + 8 * n) 8)) (pow-pos bits)
+
+pub proper-in : (b : List ℕ) → Bytes b → Proper (deviceIn b)
+unfolding deviceIn controllerIn bitParts partsOf headOf
+proper-in b h =
+    let w : (bits n : ℕ) → numberIn bits b n < 2 ^ bits = λ bits n. number-within bits b n in
+    let z : 0 < 2 ^ 0 = lit< tt in
+    record {
+      sound = record {
+        three = refl;
+        fitting = (
+          (w 32 0, (w 64 1, (w 64 2, (w 64 3, (w 64 4, (w 64 5, (w 64 6, (w 64 7, (w 8 8, (w 64 9, (z, (z, (z, (z, (z, (z, (w 64 16, (w 64 17, (w 64 18, (w 16 19, (w 64 20, (w 64 21, (w 64 22, (w 16 23, (w 64 24, (w 64 25, (w 64 26, (w 16 27, zeros-within 36)))))))))))))))))))))))))))),
+          (numbers-within 64 b 64 64, (numbers-within 64 b 128 64, (numbers-within 32 b 192 64, (numbers-within 8 b 256 64, (numbers-within 8 b 320 64, (numbers-within 8 b 384 64, (zeros-within 128, (numbers-within 64 b 576 192, tt)))))))),
+        );
+        table-bytes = bytes-part b 0 2048 h;
+      };
+      size = length-part b 0 2048;
+    }

@@ -1,6 +1,6 @@
 -- What an act can hear: nothing, or a level from 1 to 7 and a vector from 64 to 255. Assumes nothing.
 use mathlib.Core.Bool.{Bool, true, false, cond, not, _&&_}
-use mathlib.Core.List.{List}
+use mathlib.Core.List.{List, []}
 use mathlib.Core.Path.{_≡_, refl}
 use Prim.Native.Nat.{ℕ, zero, suc, _+_, _*_, _≤_, _<_}
 use native.Mathlib.Nat.{mod-lt}
@@ -9,9 +9,10 @@ use borrow.Author.Tests.{eqb-false}
 use lib.Dec.{eqb, leb, lit<, lit≤}
 use lib.ListN.{length, getD}
 use Rattle.rules.specs.Act.{Act, change, TAKEN}
-use Rattle.rules.specs.Calls.{Asked, write, inputs, pending, run, service, ack, levelled, actOf, wrong, told, heardTold, stagingAfter, worldOf, toldAfter, after}
+use Rattle.rules.specs.Calls.{Asked, write, inputs, pending, run, service, ack, levelled, actOf, wrong, wrongBack, told, heardTold, stagingAfter, worldOf, toldAfter, after, heardNothing, afterBack}
 use Rattle.rules.specs.Carry.{World, Out, ok, no, go, After, made, unmade, lastLines, written, cleared, leave, perform}
 use Rattle.rules.specs.Lines.{sources, levelBytes, relevel, answers, Found, loudestAbove, above, heardFrom, hear, acknowledge}
+use Rattle.rules.specs.TakeBack.{takeBack}
 use Rattle.rules.specs.Words.{has}
 use Rattle.rules.specs.declared.Device.{Device}
 use Rattle.rules.specs.declared.Heard.{Heard}
@@ -106,3 +107,19 @@ act-hears c base d window staging journal used = by-number (wrong base (length w
     ]))
     by-number zero = left (go base (length staging) (actOf c) u) (call-audible c u .answered)
     by-number (suc n) = tt
+
+-- a take-back hears nothing
+pub back-hears : (base : ℕ) (d : Device) (window journal : List ℕ) (used : ℕ) → heardTold (afterBack base d window journal used) ≡ Heard.Nothing
+unfolding afterBack
+back-hears base d window journal used = by-number (wrongBack base (length window) (length journal) used)
+  where
+    by-end : (o : After (Unit {0}) World) → heardTold (toldAfter [] used (heardNothing o)) ≡ Heard.Nothing
+    by-end (made a v) = unfold toldAfter heardNothing in refl
+    by-end (unmade n v) = unfold toldAfter heardNothing in refl
+
+    by-number : (n : ℕ) → heardTold (elim n [
+      | zero ↦ toldAfter [] used (heardNothing (takeBack base (worldOf d window journal used)))
+      | suc n ↦ told (suc n) Heard.Nothing d window [] journal used
+    ]) ≡ Heard.Nothing
+    by-number zero = by-end (takeBack base (worldOf d window journal used))
+    by-number (suc n) = refl
