@@ -1,6 +1,7 @@
 // The passes of one channel: document 01, "Run, service, controllers". By START, by request, and on the line of channel 35.
 // Each contract says that the function does the steps of its tree (crate `rules`, specs/Run.antt), whatever the rest of the device is.
-// The numbers of passes are those of the trees: by a theorem there (proofs/Ends) they never decide.
+// The numbers of passes are those of the trees. Those of START and of channel 35 never decide, by a theorem there (proofs/Ends); that of a channel that
+// requests, 1,048,577, is document 01's own and does.
 use flow::Flow;
 use flow::Step;
 use minor::Passed;
