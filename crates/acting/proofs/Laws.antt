@@ -14,7 +14,9 @@ use Rattle.rules.specs.Carry.{World, Out, unmade, ok, no, cleared, go, leave, p
 use Rattle.rules.specs.Fields.{fieldsOf}
 use Rattle.rules.specs.Lines.{relevel}
 use Rattle.rules.specs.declared.Acted.{Acted}
-use Rattle.rules.specs.declared.Device.{Device}
+use Rattle.rules.specs.State.{Device}
+use Rattle.rules.specs.View.{view}
+use Rattle.rules.specs.declared.Device.{Device as HeldDevice}
 use Rattle.rules.specs.declared.Heard.{Heard}
 use Rattle.rules.specs.declared.Heard.the-variants as Heard
 use Rattle.rules.specs.declared.Refusal.{Refusal}
@@ -30,30 +32,31 @@ use Rattle.flow.specs.Does.{Answers, Does}
 use Rattle.flow.specs.Worlds.{walked}
 use Rattle.flow.specs.declared.Walk.{Walk}
 use Rattle.flow.specs.declared.Walk.the-variants.{On, Off}
-use Rattle.closing.specs.Closes.{closed, Closes, SparedOf}
+use Rattle.closing.specs.Closes.{heldAt, closed, Closes, SparedOf}
 use Rattle.closing.specs.declared.Noted.{Noted}
 use Rattle.closing.specs.declared.Noted.the-variants.{At, Full}
 use Rattle.closing.specs.declared.Touched.{Touched}
 use Rattle.closing.proofs.Group.{closes}
+use Rattle.closing.proofs.Parts.{same-held}
 use Rattle.acting.specs.Ending.{heardBy, toldWith, Since, touchedBy}
 
 -- ---- refused on the way
 
-pub back-again : (d : Device) (why : Refusal) (used : ℕ) (w staging j₀ j j′ : List ℕ) (h : Heard) → Since used j₀ j
+pub back-again : (d : HeldDevice) (why : Refusal) (used : ℕ) (w staging j₀ j j′ : List ℕ) (h : Heard) → Since used j₀ j
     → j′ ≡ take used j ++ replicate (length j - used) 0 ++ drop (length j) j
-    → toldWith h (record { verdict = Verdict.Refused why; used = used; device = d }) w staging j′ ≡ toldAfter staging used (unmade (refusalNumber why) (cleared (worldOf d w j₀ used)))
+    → toldWith h (record { verdict = Verdict.Refused why; used = used; device = d }) w staging j′ ≡ toldAfter staging used (unmade (refusalNumber why) (cleared (worldOf (view d) w j₀ used)))
 unfolding toldAfter cleared heardBy
 back-again d why used w staging j₀ j j′ h s e =
-    ap (λ (l : List ℕ). told (refusalNumber why) Heard.Nothing d w staging l used)
+    ap (λ (l : List ℕ). told (refusalNumber why) Heard.Nothing (view d) w staging l used)
     (e ∙ rw (drop-length j, append-nil, length-drop used j₀, s .front, s .long) refl)
 
 -- ---- accepted, or no room for the last records
 
-module _ (d e : Device) {n : Noted} (used at : ℕ) (w staging j₀ j j′ : List ℕ) (h : Heard) (s : Since used j₀ j) (p : used ≤ at) (q : at ≤ length j)
-    (ends : Closes n (fieldsOf d) (fieldsOf e) used at j j′)
+module _ (d e : HeldDevice) {n : Noted} (used at : ℕ) (w staging j₀ j j′ : List ℕ) (h : Heard) (s : Since used j₀ j) (p : used ≤ at) (q : at ≤ length j)
+    (ends : Closes n (fieldsOf (view d)) (fieldsOf (view e)) used at j j′)
   where
-    closed-so : closed n h (worldOf d w j₀ used) e w j′ ≡ leave (worldOf d w j₀ used) (ok h (worldOf e w j at))
-    closed-so = closes ends h (worldOf d w j₀ used) e w refl refl (length-take-le used j₀ (omega (arith, s .long)))
+    closed-so : closed n h (worldOf (view d) w j₀ used) (view e) w j′ ≡ leave (worldOf (view d) w j₀ used) (ok h (worldOf (view e) w j at))
+    closed-so = closes ends h (worldOf (view d) w j₀ used) (view e) w refl refl (length-take-le used j₀ (omega (arith, s .long)))
 
     pub since-then : Since used j₀ j′
     since-then = record {
@@ -61,17 +64,17 @@ module _ (d e : Device) {n : Noted} (used at : ℕ) (w staging j₀ j j′ : Lis
       long = s .long ∙ sym (ends .long);
     }
 
-    pub ended-full : {x : Told} → n ≡ Full → x ≡ toldAfter staging used (unmade 11 (cleared (worldOf d w j₀ used)))
-        → x ≡ toldAfter staging used (leave (worldOf d w j₀ used) (ok h (worldOf e w j at)))
+    pub ended-full : {x : Told} → n ≡ Full → x ≡ toldAfter staging used (unmade 11 (cleared (worldOf (view d) w j₀ used)))
+        → x ≡ toldAfter staging used (leave (worldOf (view d) w j₀ used) (ok h (worldOf (view e) w j at)))
     unfolding closed
     ended-full f t = t ∙ ap (toldAfter staging used) (rw f at closed-so)
 
     pub ended-at : {end u : ℕ} → n ≡ At end → u ≡ min end (length j′)
-        → toldWith h (record { verdict = Verdict.Accepted; used = u; device = e }) w staging j′ ≡ toldAfter staging used (leave (worldOf d w j₀ used) (ok h (worldOf e w j at)))
+        → toldWith h (record { verdict = Verdict.Accepted; used = u; device = e }) w staging j′ ≡ toldAfter staging used (leave (worldOf (view d) w j₀ used) (ok h (worldOf (view e) w j at)))
     unfolding closed toldAfter heardBy
     ended-at {end} {u} f g =
-        ap (λ (l : List ℕ). told 0 h e w staging l u) (sym (take-append-drop end j′))
-        ∙ ap (told 0 h e w staging (take end j′ ++ drop end j′)) (g ∙ sym (length-take end j′))
+        ap (λ (l : List ℕ). told 0 h (view e) w staging l u) (sym (take-append-drop end j′))
+        ∙ ap (told 0 h (view e) w staging (take end j′ ++ drop end j′)) (g ∙ sym (length-take end j′))
         ∙ ap (toldAfter staging used) (rw f at closed-so)
 
 -- ---- an end past the last byte
@@ -119,18 +122,21 @@ since l = record { front = sym (l .front); long = sym (l .long) }
 
 -- ---- what an act touches
 
-pub spared : (t : Touched) {A : Type 0} (m : Act A) (a : A) (d : Device) (u f : List ℕ) (v : World) → Typed d → Each (sparing (touchedBy t)) m
-    → go 0 0 m (record { now = record { mem = []; dev = d }; used = u; free = f }) ≡ ok a v → SparedOf t d (v .now .dev)
-spared t {A} m a d u f v g each e =
-    let s : Properly (λ x. SameArrays (touchedBy t) d (x .now .dev)) v =
-    subst (λ (o : Out A). AtEnd (Properly (λ x. SameArrays (touchedBy t) d (x .now .dev))) o) e
-    (spares 0 0 (touchedBy t) each (record { now = record { mem = []; dev = d }; used = u; free = f }) (typed-proper d g)) in
+pub spared : (t : Touched) {A : Type 0} (m : Act A) (a : A) (d e : HeldDevice) (u f : List ℕ) (v : World) → Typed d → Each (sparing (touchedBy t)) m
+    → v .now .dev ≡ view e → go 0 0 m (record { now = record { mem = []; dev = view d }; used = u; free = f }) ≡ ok a v → SparedOf t d e
+spared t {A} m a d e u f v g each p q =
+    let s : Properly (λ x. SameArrays (touchedBy t) (view d) (x .now .dev)) v =
+    subst (λ (o : Out A). AtEnd (Properly (λ x. SameArrays (touchedBy t) (view d) (x .now .dev))) o) q
+    (spares 0 0 (touchedBy t) each (record { now = record { mem = []; dev = view d }; used = u; free = f }) (typed-proper d g)) in
+    let h : SameArrays (touchedBy t) (view d) (view e) = subst (SameArrays (touchedBy t) (view d)) p (s .1) in
+    let levels : (c : ℕ) → touchedBy t 3 ≡ false → heldAt (d .controllers) c .levels ≡ heldAt (e .controllers) c .levels =
+    λ c z. same-held (d .controllers) (e .controllers) c (h .levels-are z c) in
     record {
-      same-busy = s .1 .busy-is;
-      same-majors = s .1 .majors-is;
-      same-pending = s .1 .pending-is;
-      same-levels = λ q. record { first = s .1 .levels-are q 0; second = s .1 .levels-are q 1; third = s .1 .levels-are q 2 };
-      same-taken = s .1 .taken-is;
+      same-busy = h .busy-is;
+      same-majors = h .majors-is;
+      same-pending = h .pending-is;
+      same-levels = λ z. record { first = levels 0 z; second = levels 1 z; third = levels 2 z };
+      same-taken = h .taken-is;
     }
 
 -- ---- the whole call

@@ -8,7 +8,8 @@ use Rattle.rules.specs.Act.{Act}
 use Rattle.rules.specs.Calls.{Told, told, toldActed, toldAfter, verdictNumber, refusalNumber, worldOf, levelled}
 use Rattle.rules.specs.Carry.{ok, unmade, cleared, go, leave, perform}
 use Rattle.rules.specs.declared.Acted.{Acted}
-use Rattle.rules.specs.declared.Device.{Device}
+use Rattle.rules.specs.State.{Device}
+use Rattle.rules.specs.View.{view}
 use Rattle.rules.specs.declared.Heard.{Heard}
 use Rattle.rules.specs.declared.Heard.the-variants as Heard
 use Rattle.rules.specs.declared.Refusal.{Refusal}
@@ -26,7 +27,7 @@ heardBy Verdict.Accepted h = h
 heardBy (Verdict.Refused r) h = Heard.Nothing
 
 abbrev pub toldWith : Heard → Acted → List ℕ → List ℕ → List ℕ → Told
-toldWith h r window staging journal = told (verdictNumber (r .verdict)) (heardBy (r .verdict) h) (r .device) window staging journal (r .used)
+toldWith h r window staging journal = told (verdictNumber (r .verdict)) (heardBy (r .verdict) h) (view (r .device)) window staging journal (r .used)
 
 -- the journal j₀ that the act began with, and j as it is now, are the same below the used length, and as long
 pub record Since (used : ℕ) (j₀ j : List ℕ) : Type 0 where

@@ -10,6 +10,7 @@ use rules::Verdict;
 ghost use mathlib.Core.Path.{_≡_};
 ghost use Prim.Native.Nat.{_≤_, min};
 ghost use lib.ListN.{length};
+ghost use Rattle.rules.specs.View.{view};
 ghost use Rattle.rules.specs.declared.Verdict.the-variants as Verdict;
 ghost use Rattle.closing.specs.Closes.{SparedOf};
 ghost use Rattle.acting.specs.Ending.{TakenBack, Ends, Began, Settles};
@@ -34,7 +35,7 @@ pub fn refused(d: Device, why: Refusal, used: usize) -> Acted
 // "Journal bytes past the used length: zero to the end after [..] 11 elsewhere."
 fn taken_back(d: Device, why: Refusal, journal: &mut [u8], used: usize) -> Acted
     requires { ⌜ used ≤ length (now journal) ⌝ }
-    ensures { λ r. ⌜ TakenBack d why used r (now (journal .entry)) (now (journal .exit)) ⌝ }
+    ensures { λ r. ⌜ TakenBack (view d) why used r (now (journal .entry)) (now (journal .exit)) ⌝ }
 {
     let len = journal.len();
     journal::clear(journal, used, len);
@@ -52,7 +53,7 @@ pub fn finish(
     at: usize,
 ) -> Acted
     requires { ⌜ (used ≤ at) × (at ≤ length (now journal)) × SparedOf touched d e ⌝ }
-    ensures { λ r. ⌜ Ends d e used at r (now (journal .entry)) (now (journal .exit)) ⌝ }
+    ensures { λ r. ⌜ Ends (view d) (view e) used at r (now (journal .entry)) (now (journal .exit)) ⌝ }
 {
     let n = closing::end_act(d, e, touched, journal, used, at);
     let Noted::At(end) = n else {
@@ -68,8 +69,8 @@ pub fn finish(
 
 // "Each accepted act but acknowledge ends by working out lines and level anew."
 pub fn settle(d: Device, s: Reached, touched: Touched, journal: &mut [u8], used: usize) -> Acted
-    requires { ⌜ Began d s touched used (now journal) ⌝ }
-    ensures { λ r. ⌜ Settles d s used r (now (journal .entry)) (now (journal .exit)) ⌝ }
+    requires { ⌜ Began (view d) s touched used (now journal) ⌝ }
+    ensures { λ r. ⌜ Settles (view d) s used r (now (journal .entry)) (now (journal .exit)) ⌝ }
 {
     let w = s.walk;
     let e = s.device;

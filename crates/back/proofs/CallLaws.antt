@@ -12,7 +12,8 @@ use Rattle.rules.specs.Calls.{toldActed, worldOf, badWindow, badJournal, check,
 use Rattle.rules.specs.Carry.{unmade, undo}
 use Rattle.rules.specs.TakeBack.{decodeAll, takeBack}
 use Rattle.rules.specs.declared.Acted.{Acted}
-use Rattle.rules.specs.declared.Device.{Device}
+use Rattle.rules.specs.View.{view}
+use Rattle.rules.specs.declared.Device.{Device as HeldDevice}
 use Rattle.rules.specs.declared.Heard.the-variants as Heard
 use Rattle.rules.specs.declared.Refusal.the-variants as Refusal
 use Rattle.rules.specs.declared.Verdict.the-variants as Verdict
@@ -36,42 +37,42 @@ module _ (len used : ℕ) (fine : badJournal len used ≡ false) where
       (neither (ltb (2 ^ 28) len) (not (eqb (used % 16) 0)) (neither (ltb (2 ^ 28) len || not (eqb (used % 16) 0)) (ltb len used) fine .0) .1))
 
 -- the answer r, with window and journal as they are then
-module _ (base : ℕ) (d : Device) (w j : List ℕ) (used : ℕ) where
+module _ (base : ℕ) (d : HeldDevice) (w j : List ℕ) (used : ℕ) where
   pub bad-window : {r : Acted} → badWindow base (length w) ≡ true → r ≡ record { verdict = Verdict.Refused Refusal.Window; used = used; device = d }
-      → toldActed r w [] j ≡ afterBack base d w j used
+      → toldActed r w [] j ≡ afterBack base (view d) w j used
   unfolding afterBack wrongBack check
   bad-window e h = rw (h, e, afterBack)
 
   module _ (window-fine : badWindow base (length w) ≡ false) where
     pub bad-journal : {r : Acted} → badJournal (length j) used ≡ true → r ≡ record { verdict = Verdict.Refused Refusal.Journal; used = used; device = d }
-        → toldActed r w [] j ≡ afterBack base d w j used
+        → toldActed r w [] j ≡ afterBack base (view d) w j used
     unfolding afterBack wrongBack check
     bad-journal e h = rw (h, window-fine, e, afterBack)
 
     module _ (journal-fine : badJournal (length j) used ≡ false) where
-      tested : afterBack base d w j used ≡ toldAfter [] used (heardNothing (takeBack base (worldOf d w j used)))
+      tested : afterBack base (view d) w j used ≡ toldAfter [] used (heardNothing (takeBack base (worldOf (view d) w j used)))
       unfolding afterBack wrongBack check
       tested = rw (window-fine, journal-fine, afterBack)
 
-      unmade-as : (n : ℕ) → takeBack base (worldOf d w j used) ≡ unmade n (worldOf d w j used) → told n Heard.Nothing d w [] j used ≡ afterBack base d w j used
+      unmade-as : (n : ℕ) → takeBack base (worldOf (view d) w j used) ≡ unmade n (worldOf (view d) w j used) → told n Heard.Nothing (view d) w [] j used ≡ afterBack base (view d) w j used
       unfolding toldAfter heardNothing
       unmade-as n e = sym (tested ∙ rw (e, take-append-drop used j))
 
       pub nothing-stands : {r : Acted} → used ≡ 0 → r ≡ record { verdict = Verdict.Refused Refusal.NothingStands; used = used; device = d }
-          → toldActed r w [] j ≡ afterBack base d w j used
-      nothing-stands z h = rw h (unmade-as 12 (take-none base (worldOf d w j used) (rw z)))
+          → toldActed r w [] j ≡ afterBack base (view d) w j used
+      nothing-stands z h = rw h (unmade-as 12 (take-none base (worldOf (view d) w j used) (rw z)))
 
       -- what was found to stand is s
       module _ (long : length (d .table) ≡ 2048) {s : Standing} (found : Finds base w (take used j) s) where
         pub is-damaged : {r : Acted} → s ≡ Damaged → r ≡ record { verdict = Verdict.Refused Refusal.Damaged; used = used; device = d }
-            → toldActed r w [] j ≡ afterBack base d w j used
-        is-damaged e h = rw h (unmade-as 13 ((rw e at found) d (drop used j) long))
+            → toldActed r w [] j ≡ afterBack base (view d) w j used
+        is-damaged e h = rw h (unmade-as 13 ((rw e at found) (view d) (drop used j) long))
 
-        pub accepted : {from n : ℕ} {after : Device} {w′ j′ : List ℕ} {r : Acted} → s ≡ Group from n
-            → machine w′ after ≡ undo base (decodeAll n (drop from (take used j))) (machine w d)
+        pub accepted : {from n : ℕ} {after : HeldDevice} {w′ j′ : List ℕ} {r : Acted} → s ≡ Group from n
+            → machine w′ (view after) ≡ undo base (decodeAll n (drop from (take used j))) (machine w (view d))
             → j′ ≡ take from j ++ replicate (used - from) 0 ++ drop used j
             → r ≡ record { verdict = Verdict.Accepted; used = from; device = after }
-            → toldActed r w′ [] j′ ≡ afterBack base d w j used
+            → toldActed r w′ [] j′ ≡ afterBack base (view d) w j used
         unfolding toldAfter heardNothing
         accepted {from} e undone cleared h =
             let group = rw e at found in
@@ -79,7 +80,7 @@ module _ (base : ℕ) (d : Device) (w j : List ℕ) (used : ℕ) where
             let some : from ≤ used = omega (arith, group .0 .long) in
             let kept : length (take from (take used j)) ≡ from = length-take-le from (take used j) (omega arith) in
             let joined = append-assoc (take from j) (replicate (used - from) 0) (drop used j) in
-            rw (h, cleared) (sym (tested ∙ rw (group .1 d (drop used j) long, ← undone, kept, all, take-take from used j some, joined)))
+            rw (h, cleared) (sym (tested ∙ rw (group .1 (view d) (drop used j) long, ← undone, kept, all, take-take from used j some, joined)))
 
 -- of a group that stands the bytes are there, and it is sound
 pub group-stands : {base : ℕ} {w used : List ℕ} {s : Standing} {from n : ℕ} → Finds base w used s → s ≡ Group from n → Sound base w used from n

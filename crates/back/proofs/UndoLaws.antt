@@ -15,7 +15,7 @@ use Rattle.rules.specs.Carry.{Machine, Rec, stoodAt, stoodIn, legal, there, byt
 use Rattle.rules.specs.Fields.{fieldAt, fitsSome, withField, withSome, withNumber}
 use Rattle.rules.specs.TakeBack.{kind, width, place, value, marked, soundStore, soundField, soundKind, sound, allSound, recOf, decode, decodeAll}
 use Rattle.rules.specs.With.{withTable}
-use Rattle.rules.specs.declared.Device.{Device}
+use Rattle.rules.specs.State.{Device}
 use Rattle.rules.proofs.BoolLaws.{and-left, and-right}
 use Rattle.rules.proofs.BytesLaws.{getD-part, part-part}
 use Rattle.rules.proofs.Cut.{part-cut}

@@ -10,6 +10,7 @@ ghost use mathlib.Core.List.{[]};
 ghost use Prim.Native.Nat.{_+_, _-_, _*_, _≤_};
 ghost use lib.ListN.{length, drop};
 ghost use lib.Dec.{ltb};
+ghost use Rattle.rules.specs.View.{view};
 ghost use Rattle.rules.specs.Act.{window as inWindow};
 ghost use Rattle.rules.specs.Bytes.{bytes, part, splice};
 ghost use Rattle.rules.specs.Calls.{afterBack, toldActed};
@@ -105,7 +106,7 @@ fn is_field(stands: &[u8], at: usize) -> bool
 // The record of a field undone.
 fn undo_field(d: Device, stands: &[u8], at: usize) -> Device
     requires { ⌜ (at + 16 ≤ length (now stands)) × (fitsSome (fieldAt (place (part (now stands) at 16))) (value (part (now stands) at 16)) ≡ true) ⌝ }
-    ensures { λ r. ⌜ r ≡ withNumber (place (part (now (stands .entry)) at 16)) (value (part (now (stands .entry)) at 16)) d ⌝ }
+    ensures { λ r. ⌜ view r ≡ withNumber (place (part (now (stands .entry)) at 16)) (value (part (now (stands .entry)) at 16)) (view d) ⌝ }
 {
     let n = words::get4(stands, at + 4) as usize;
     device::with_number(d, n, words::get8(stands, at + 8))
@@ -122,7 +123,7 @@ fn undo_group(
     count: usize,
 ) -> Device
     requires { ⌜ (from + count * 16 ≤ length (now stands)) × (allSound base (holding (now window)) count (drop from (now stands)) ≡ true) ⌝ }
-    ensures { λ r. ⌜ machine (now (window .exit)) r ≡ undo base (decodeAll count (drop from (now (stands .entry)))) (machine (now (window .entry)) d) ⌝ }
+    ensures { λ r. ⌜ machine (now (window .exit)) (view r) ≡ undo base (decodeAll count (drop from (now (stands .entry)))) (machine (now (window .entry)) (view d)) ⌝ }
 {
     let mut table = d.table;
     let mut e = d;
@@ -167,7 +168,7 @@ fn accepted(e: Device, from: usize) -> Acted
 // "Take back: base address, window, journal; undoes the last standing act." Checks 5 and 6 "go in number order", then 12 and 13. "After a
 // take-back the removed group's bytes are zero and the rest unchanged."
 pub fn take_back(d: Device, base: u32, window: &mut [u8], journal: &mut [u8], used: usize) -> Acted
-    ensures { λ r. ⌜ toldActed r (now (window .exit)) [] (now (journal .exit)) ≡ afterBack base d (now (window .entry)) (now (journal .entry)) used ⌝ }
+    ensures { λ r. ⌜ toldActed r (now (window .exit)) [] (now (journal .exit)) ≡ afterBack base (view d) (now (window .entry)) (now (journal .entry)) used ⌝ }
 {
     if asking::bad_window(base, window.len()) {
         return refused(Refusal::Window, d, used);

@@ -18,7 +18,7 @@ use Rattle.rules.specs.Minor.{pass, tcdOf, DONE}
 use Rattle.rules.specs.Run.{startLoop, lineLoop, requestLoop}
 use Rattle.rules.specs.Words.{has}
 use Rattle.rules.specs.With.{withPending}
-use Rattle.rules.specs.declared.Device.{Device}
+use Rattle.rules.specs.State.{Device}
 use Rattle.rules.specs.declared.Refusal.{Refusal}
 use Rattle.rules.specs.declared.Refusal.the-variants as Refusal
 use Rattle.rules.proofs.Steps.{bind-ok, bind-no, putting}

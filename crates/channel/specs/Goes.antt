@@ -6,7 +6,7 @@ use Rattle.rules.specs.Act.{Act}
 use Rattle.rules.specs.Calls.{refusalNumber}
 use Rattle.rules.specs.Carry.{Out, ok, no, go}
 use Rattle.rules.specs.With.{withPending}
-use Rattle.rules.specs.declared.Device.{Device}
+use Rattle.rules.specs.State.{Device}
 use Rattle.flow.specs.Worlds.{world, told}
 use Rattle.flow.specs.declared.Flow.{Flow}
 use Rattle.flow.specs.declared.Step.{Step}

@@ -13,7 +13,7 @@ use Rattle.rules.specs.Bytes.{splice}
 use Rattle.rules.specs.Calls.{worldOf}
 use Rattle.rules.specs.Carry.{World, Rec, lineOf, linesOf, endLine, changed, lastLines, written, After, made, unmade, ok, cleared, leave}
 use Rattle.rules.specs.Fields.{fieldsOf}
-use Rattle.rules.specs.declared.Device.{Device}
+use Rattle.rules.specs.State.{Device}
 use Rattle.rules.proofs.Back.{length-rec, length-lines, length-end}
 use Rattle.rules.proofs.BytesLaws.{length-splice, splice-comm, splice-append}
 use Rattle.rules.proofs.Cut.{splice-cut}

@@ -1,14 +1,17 @@
 -- The fields in number order, part after part, with what no act changes between them. Assumes nothing.
-use mathlib.Core.List.{List, [], _∷_, _++_, append-assoc, append-nil}
+use mathlib.Core.List.{List, [], _∷_, _++_, append-assoc, append-nil, map}
 use mathlib.Core.Path.{_≡_, refl, sym, ap, _∙_}
 use Prim.Native.Nat.{ℕ, _+_}
 use native.Mathlib.Omega.{arith}
 use lib.ListN.{length, length-append, replicate}
 use Rattle.rules.specs.Carry.{changed}
 use Rattle.rules.specs.Fields.{joined, headOf, partsOf, fieldsOf, controller, masksOf}
-use Rattle.rules.specs.declared.Controller.{Controller}
-use Rattle.rules.specs.declared.Device.{Device}
-use Rattle.closing.specs.Closes.{Noting, noting, addAll, Notes, Part, scalarsIn, headIn, lowIn, highIn, fieldsIn, smallOf, SameLevels}
+use Rattle.rules.specs.State.{Controller}
+use Rattle.rules.specs.View.{viewController, view}
+use Rattle.rules.specs.declared.Controller.{Controller as HeldController}
+use Rattle.rules.specs.declared.Device.{Device as HeldDevice}
+use Rattle.rules.proofs.ViewLaws.{controller-viewed}
+use Rattle.closing.specs.Closes.{Noting, noting, addAll, Notes, Part, heldAt, scalarsIn, headIn, lowIn, highIn, fieldsIn, smallOf, SameLevels}
 use Rattle.closing.specs.declared.Noted.{Noted}
 use Rattle.closing.specs.declared.Small.{Small}
 use Rattle.closing.proofs.Laws.{part-on, same-on, none-changed}
@@ -27,17 +30,17 @@ own-on s j n k b a xs ys e p f = part-on n k (masksOf b []) (masksOf a []) xs ys
 
 module _ (s : Noted) (j : List ℕ) (b a : Small) {t₁ t₂ t₃ r : Noted} {j₁ j₂ j₃ j′ : List ℕ} where
   pub head-done : Notes 0 (scalarsIn b []) (scalarsIn a []) s t₁ j j₁
-      → Notes 16 (masksOf (controller (b .controllers) 0) []) (masksOf (controller (a .controllers) 0) []) t₁ t₂ j₁ j₂
-      → Notes 20 (masksOf (controller (b .controllers) 1) []) (masksOf (controller (a .controllers) 1) []) t₂ t₃ j₂ j₃
-      → Notes 24 (masksOf (controller (b .controllers) 2) []) (masksOf (controller (a .controllers) 2) []) t₃ r j₃ j′
+      → Notes 16 (masksOf (heldAt (b .controllers) 0) []) (masksOf (heldAt (a .controllers) 0) []) t₁ t₂ j₁ j₂
+      → Notes 20 (masksOf (heldAt (b .controllers) 1) []) (masksOf (heldAt (a .controllers) 1) []) t₂ t₃ j₂ j₃
+      → Notes 24 (masksOf (heldAt (b .controllers) 2) []) (masksOf (heldAt (a .controllers) 2) []) t₃ r j₃ j′
       → Notes 0 (headIn b) (headIn a) s r j j′
   unfolding headIn scalarsIn
   head-done e f g h =
       part-on 0 10 (scalarsIn b []) (scalarsIn a []) _ _ (noting s j) refl refl e
       (same-on 10 16 (replicate 6 0) _ _ (noting t₁ j₁) refl
-      (own-on t₁ j₁ 16 20 (controller (b .controllers) 0) (controller (a .controllers) 0) _ _ refl f
-      (own-on t₂ j₂ 20 24 (controller (b .controllers) 1) (controller (a .controllers) 1) _ _ refl g
-      (own-on t₃ j₃ 24 28 (controller (b .controllers) 2) (controller (a .controllers) 2) _ _ refl h
+      (own-on t₁ j₁ 16 20 (heldAt (b .controllers) 0) (heldAt (a .controllers) 0) _ _ refl f
+      (own-on t₂ j₂ 20 24 (heldAt (b .controllers) 1) (heldAt (a .controllers) 1) _ _ refl g
+      (own-on t₃ j₃ 24 28 (heldAt (b .controllers) 2) (heldAt (a .controllers) 2) _ _ refl h
       (none-changed 28 (replicate 36 0) (replicate 36 0) (noting r j′) refl)))))
 
   pub low-done : {busy busy′ majors majors′ pending pending′ : List ℕ} → Notes 0 (headIn b) (headIn a) s t₁ j j₁ → Part 64 64 busy busy′ t₁ t₂ j₁ j₂
@@ -54,14 +57,14 @@ module _ (s : Noted) (j : List ℕ) (b a : Small) {t₁ t₂ t₃ r : Noted} {j�
       long : (h : Small) (x y z : List ℕ) → length x ≡ 64 → length y ≡ 64 → length z ≡ 64 → length (headIn h ++ (x ++ (y ++ z))) ≡ 256
       long h x y z p q f = omega (arith, length-append (headIn h) (x ++ (y ++ z)), length-append x (y ++ z), length-append y z)
 
-pub high-done : (s : Noted) (j : List ℕ) (b a : List Controller) (taken taken′ : List ℕ) {t₁ t₂ t₃ r : Noted} {j₁ j₂ j₃ j′ : List ℕ}
-    → Part 64 256 (controller b 0 .levels) (controller a 0 .levels) s t₁ j j₁ → Part 64 320 (controller b 1 .levels) (controller a 1 .levels) t₁ t₂ j₁ j₂
-    → Part 64 384 (controller b 2 .levels) (controller a 2 .levels) t₂ t₃ j₂ j₃ → Notes 576 taken taken′ t₃ r j₃ j′ → Notes 256 (highIn b taken) (highIn a taken′) s r j j′
+pub high-done : (s : Noted) (j : List ℕ) (b a : List HeldController) (taken taken′ : List ℕ) {t₁ t₂ t₃ r : Noted} {j₁ j₂ j₃ j′ : List ℕ}
+    → Part 64 256 (heldAt b 0 .levels) (heldAt a 0 .levels) s t₁ j j₁ → Part 64 320 (heldAt b 1 .levels) (heldAt a 1 .levels) t₁ t₂ j₁ j₂
+    → Part 64 384 (heldAt b 2 .levels) (heldAt a 2 .levels) t₂ t₃ j₂ j₃ → Notes 576 taken taken′ t₃ r j₃ j′ → Notes 256 (highIn b taken) (highIn a taken′) s r j j′
 unfolding highIn
 high-done s j b a taken taken′ {t₁} {t₂} {t₃} {r} {j₁} {j₂} {j₃} e f g h =
-    rest-on s j 256 320 64 (controller b 0 .levels) (controller a 0 .levels) _ _ refl e
-    (rest-on t₁ j₁ 320 384 64 (controller b 1 .levels) (controller a 1 .levels) _ _ refl f
-    (rest-on t₂ j₂ 384 448 64 (controller b 2 .levels) (controller a 2 .levels) _ _ refl g
+    rest-on s j 256 320 64 (heldAt b 0 .levels) (heldAt a 0 .levels) _ _ refl e
+    (rest-on t₁ j₁ 320 384 64 (heldAt b 1 .levels) (heldAt a 1 .levels) _ _ refl f
+    (rest-on t₂ j₂ 384 448 64 (heldAt b 2 .levels) (heldAt a 2 .levels) _ _ refl g
     (same-on 448 576 (replicate 128 0) _ _ (noting t₃ j₃) refl h)))
 
 module _ (s : Noted) (j : List ℕ) (b a : Small) (busy busy′ majors majors′ pending pending′ taken taken′ : List ℕ) {t r : Noted} {i j′ : List ℕ} where
@@ -81,14 +84,23 @@ low-only s j b a busy busy′ majors majors′ pending pending′ taken same p =
 
 -- ---- a device that is whole
 
-head-in : (d : Device) → headOf d ≡ headIn (smallOf d)
+head-in : (d : HeldDevice) → headOf (view d) ≡ headIn (smallOf d)
 unfolding headOf headIn scalarsIn
-head-in d = refl
+head-in d = rw (controller-viewed (d .controllers) 0, controller-viewed (d .controllers) 1, controller-viewed (d .controllers) 2) refl
 
 in-two : (h x y z k l m o t : List ℕ) → joined (h ∷ x ∷ y ∷ z ∷ k ∷ l ∷ m ∷ o ∷ t ∷ []) ≡ (h ++ (x ++ (y ++ z))) ++ (k ++ (l ++ (m ++ (o ++ t))))
 unfolding joined
 in-two h x y z k l m o t = simp (append-assoc, append-nil)
 
-pub fields-in : (d : Device) → fieldsOf d ≡ fieldsIn (smallOf d) (d .busy) (d .majors) (d .pending) (d .taken)
+pub fields-in : (d : HeldDevice) → fieldsOf (view d) ≡ fieldsIn (smallOf d) (d .busy) (d .majors) (d .pending) (d .taken)
 unfolding fieldsOf partsOf fieldsIn lowIn highIn
-fields-in d = in-two (headOf d) (d .busy) (d .majors) (d .pending) _ _ _ (replicate 128 0) (d .taken) ∙ rw (head-in d)
+fields-in d =
+    in-two (headOf (view d)) (d .busy) (d .majors) (d .pending) _ _ _ (replicate 128 0) (d .taken)
+    ∙ rw (head-in d, controller-viewed (d .controllers) 0, controller-viewed (d .controllers) 1, controller-viewed (d .controllers) 2)
+
+-- ---- levels of controllers as they are held
+
+pub same-held : (ks ls : List HeldController) (c : ℕ) → controller (map viewController ks) c .levels ≡ controller (map viewController ls) c .levels
+    → heldAt ks c .levels ≡ heldAt ls c .levels
+same-held ks ls c e =
+    ap (λ (k : Controller). k .levels) (sym (controller-viewed ks c)) ∙ e ∙ ap (λ (k : Controller). k .levels) (controller-viewed ls c)

@@ -4,13 +4,16 @@ use mathlib.Core.List.{List, [], _∷_, _++_}
 use mathlib.Core.Path.{_≡_}
 use Prim.Native.Nat.{ℕ, _+_, _-_, _/_, _^_, _<_}
 use lib.Dec.{leb}
-use lib.ListN.{length, take, replicate}
+use lib.ListN.{length, getD, take, replicate}
 use Rattle.rules.specs.Bytes.{splice}
 use Rattle.rules.specs.Calls.{worldOf}
 use Rattle.rules.specs.Carry.{World, Rec, lineOf, endLine, changed, After, made, unmade, ok, cleared, leave}
-use Rattle.rules.specs.Fields.{controller, masksOf, fieldsOf}
-use Rattle.rules.specs.declared.Controller.{Controller}
-use Rattle.rules.specs.declared.Device.{Device}
+use Rattle.rules.specs.Fields.{masksOf, fieldsOf}
+use Rattle.rules.specs.State.{Controller, Device}
+use Rattle.rules.specs.View.{viewController}
+use Rattle.rules.specs.declared.Controller.{Controller as HeldController}
+use Rattle.rules.specs.declared.Device.{Device as HeldDevice}
+use Rattle.rules.proofs.ViewLaws.{noHeld}
 use Rattle.closing.specs.declared.Noted.{Noted}
 use Rattle.closing.specs.declared.Noted.the-variants.{At, Full}
 use Rattle.closing.specs.declared.Small.{Small}
@@ -56,6 +59,10 @@ pub record Arrays (touched : Bool) (n : ℕ) (b a : List ℕ) : Type 0 where
 
 -- ---- the fields of a device that is held in parts
 
+-- what one of several controllers stands for
+abbrev pub heldAt : List HeldController → ℕ → Controller
+heldAt cs c = viewController (getD cs c noHeld)
+
 -- 0 to 9, and then others
 unfoldable pub scalarsIn : Small → List ℕ → List ℕ
 scalarsIn s rest =
@@ -65,20 +72,20 @@ scalarsIn s rest =
 unfoldable pub headIn : Small → List ℕ
 headIn s =
     scalarsIn s
-    (0 ∷ 0 ∷ 0 ∷ 0 ∷ 0 ∷ 0 ∷ masksOf (controller (s .controllers) 0) (masksOf (controller (s .controllers) 1) (masksOf (controller (s .controllers) 2) (replicate 36 0))))
+    (0 ∷ 0 ∷ 0 ∷ 0 ∷ 0 ∷ 0 ∷ masksOf (heldAt (s .controllers) 0) (masksOf (heldAt (s .controllers) 1) (masksOf (heldAt (s .controllers) 2) (replicate 36 0))))
 
 -- 0 to 255; busy, majors, pending
 unfoldable pub lowIn : Small → List ℕ → List ℕ → List ℕ → List ℕ
 lowIn s busy majors pending = headIn s ++ (busy ++ (majors ++ pending))
 
 -- from 256 on; taken
-unfoldable pub highIn : List Controller → List ℕ → List ℕ
-highIn k taken = controller k 0 .levels ++ (controller k 1 .levels ++ (controller k 2 .levels ++ (replicate 128 0 ++ taken)))
+unfoldable pub highIn : List HeldController → List ℕ → List ℕ
+highIn k taken = heldAt k 0 .levels ++ (heldAt k 1 .levels ++ (heldAt k 2 .levels ++ (replicate 128 0 ++ taken)))
 
 unfoldable pub fieldsIn : Small → List ℕ → List ℕ → List ℕ → List ℕ → List ℕ
 fieldsIn s busy majors pending taken = lowIn s busy majors pending ++ highIn (s .controllers) taken
 
-abbrev pub smallOf : Device → Small
+abbrev pub smallOf : HeldDevice → Small
 smallOf d = record {
   erq = d .erq;
   eei = d .eei;
@@ -94,20 +101,20 @@ smallOf d = record {
 }
 
 -- the levels of the three controllers are the same
-pub record SameLevels (k l : List Controller) : Type 0 where
-  pub first : controller k 0 .levels ≡ controller l 0 .levels
-  pub second : controller k 1 .levels ≡ controller l 1 .levels
-  pub third : controller k 2 .levels ≡ controller l 2 .levels
+pub record SameLevels (k l : List HeldController) : Type 0 where
+  pub first : heldAt k 0 .levels ≡ heldAt l 0 .levels
+  pub second : heldAt k 1 .levels ≡ heldAt l 1 .levels
+  pub third : heldAt k 2 .levels ≡ heldAt l 2 .levels
 
 -- an array that is not touched is the same before and after
-pub record Spared (t : Touched) (k l : List Controller) (busy busy′ majors majors′ pending pending′ taken taken′ : List ℕ) : Type 0 where
+pub record Spared (t : Touched) (k l : List HeldController) (busy busy′ majors majors′ pending pending′ taken taken′ : List ℕ) : Type 0 where
   pub same-busy : t .busy ≡ false → busy ≡ busy′
   pub same-majors : t .majors ≡ false → majors ≡ majors′
   pub same-pending : t .pending ≡ false → pending ≡ pending′
   pub same-levels : t .levels ≡ false → SameLevels k l
   pub same-taken : t .taken ≡ false → taken ≡ taken′
 
-abbrev pub SparedOf : Touched → Device → Device → Type 0
+abbrev pub SparedOf : Touched → HeldDevice → HeldDevice → Type 0
 SparedOf t d e = Spared t (d .controllers) (e .controllers) (d .busy) (e .busy) (d .majors) (e .majors) (d .pending) (e .pending) (d .taken) (e .taken)
 
 -- ---- how an act that began at u and reached device d ends: made, or refused for want of room

@@ -8,6 +8,7 @@ ghost use mathlib.Core.List.{List, _∷_, []};
 ghost use mathlib.Core.Path.{_≡_};
 ghost use Prim.Native.Nat.{ℕ, _≤_, _<_};
 ghost use lib.ListN.{length};
+ghost use Rattle.rules.specs.View.{viewController, view};
 ghost use Rattle.rules.specs.Carry.{line};
 ghost use Rattle.rules.specs.Fields.{fieldsOf, masksOf};
 ghost use Rattle.closing.specs.declared.Noted.the-variants.{At};
@@ -254,7 +255,7 @@ fn note_own(
     journal: &mut [u8],
 ) -> Noted
     requires { ⌜ first < 64 ⌝ }
-    ensures { λ r. ⌜ Notes first (masksOf before []) (masksOf after []) s r (now (journal .entry)) (now (journal .exit)) ⌝ }
+    ensures { λ r. ⌜ Notes first (masksOf (viewController before) []) (masksOf (viewController after) []) s r (now (journal .entry)) (now (journal .exit)) ⌝ }
 {
     let masks = note_field(s, first, before.masks, after.masks, journal);
     let forced = note_field(masks, first + 1, before.forced, after.forced, journal);
@@ -474,7 +475,7 @@ pub fn end_act(
     at: usize,
 ) -> Noted
     requires { ⌜ (used ≤ at) × (at ≤ length (now journal)) × SparedOf touched before after ⌝ }
-    ensures { λ r. ⌜ Closes r (fieldsOf before) (fieldsOf after) used at (now (journal .entry)) (now (journal .exit)) ⌝ }
+    ensures { λ r. ⌜ Closes r (fieldsOf (view before)) (fieldsOf (view after)) used at (now (journal .entry)) (now (journal .exit)) ⌝ }
 {
     let small = small_of(before);
     let small_after = small_of(after);

@@ -1,6 +1,6 @@
 -- The acts of `specs/Lines.antt` of rules on a device: what they answer and leave, said of its controllers. Assumes nothing.
 use mathlib.Core.Bool.{Bool}
-use mathlib.Core.List.{List, [], _∷_}
+use mathlib.Core.List.{List, [], _∷_, map}
 use mathlib.Core.Path.{_≡_, refl, sym, ap, _∙_, subst}
 use Prim.Native.Nat.{ℕ, zero, suc, _+_, _%_, _^_, _<_, max}
 use native.Mathlib.Nat.{mod-lt}
@@ -9,18 +9,21 @@ use borrow.Author.Tests.{eq-eqb, ne-eqb}
 use lib.ListN.{length, getD, set}
 use lib.Pow.{pow-pos}
 use lib.Seq.{ext-getD}
-use Rattle.rules.specs.declared.Controller.{Controller}
-use Rattle.rules.specs.declared.Device.{Device}
+use Rattle.rules.specs.State.{Controller, Device}
 use Rattle.rules.specs.declared.Heard.{Heard}
 use Rattle.rules.specs.declared.Heard.the-variants as Heard
 use Rattle.rules.specs.Act.{acts, put, INT, LEVEL, LINES, SOURCE, TAKEN}
 use Rattle.rules.specs.Bytes.{part}
 use Rattle.rules.specs.Carry.{go}
 use Rattle.rules.specs.Fields.{controller, bitsOf, holds, withField, partsOf}
-use Rattle.rules.specs.With.{withControllers, withLevel}
+use Rattle.rules.specs.View.{viewController, view}
+use Rattle.rules.specs.With.{withControllers, withLevel, withLines}
+use Rattle.rules.specs.declared.Controller.{Controller as HeldController}
+use Rattle.rules.specs.declared.Device.{Device as HeldDevice}
 use Rattle.rules.specs.Lines.{driven, sources, levelBytes, levelOf, relevel, above, heardFrom, hear, acknowledge, Found}
 use Rattle.rules.proofs.BytesLaws.{length-part, getD-part}
 use Rattle.rules.proofs.FieldLaws.{in-three, Sound, sized, holds-fits}
+use Rattle.rules.proofs.ViewLaws.{map-set, noHeld, controller-viewed}
 use Rattle.flow.specs.Does.{Answers, Does}
 use Rattle.flow.proofs.DoesLaws.{answers-done, answers-ask, answers-bind, answers-then, does-put, does-change}
 use Rattle.controllers.proofs.MaskParts.{driven-fits}
@@ -39,7 +42,7 @@ part-whole xs n e = ext-getD 0 (part xs 0 n) xs (length-part xs 0 n ∙ sym e) (
         plain i = omega arith
 
 module _ (d : Device) (c : ℕ) where
-  sources-answers : Answers (sources c) d (sourcesOf (d .«ignore_masks») (controller (d .controllers) c)) d
+  sources-answers : Answers (sources c) d (sourcesOf (d .ignore) (controller (d .controllers) c)) d
   unfolding Answers go sources acts
   sources-answers base staging mem used free = refl
 
@@ -54,11 +57,11 @@ module _ (d : Device) (c : ℕ) where
     levels-answer =
         subst (λ (l : List ℕ). Answers (levelBytes c 64 0) d l d) (part-whole (controller (d .controllers) c .levels) 64 long) (bytes-answer 64 0)
 
-    level-answers : Answers (levelOf c) d (levelIn (d .«ignore_masks») (controller (d .controllers) c)) d
+    level-answers : Answers (levelOf c) d (levelIn (d .ignore) (controller (d .controllers) c)) d
     unfolding levelOf levelIn
     level-answers = answers-bind _ _ d d d _ _ sources-answers (answers-bind _ _ d d d _ _ levels-answer (answers-done d _))
 
-    heard-answers : (ipl : ℕ) (below : Found) → Answers (heardFrom ipl c below) d (above c (loudIn ipl (d .«ignore_masks») (controller (d .controllers) c)) below) d
+    heard-answers : (ipl : ℕ) (below : Found) → Answers (heardFrom ipl c below) d (above c (loudIn ipl (d .ignore) (controller (d .controllers) c)) below) d
     unfolding heardFrom loudIn
     heard-answers ipl below = answers-bind _ _ d d d _ _ sources-answers (answers-bind _ _ d d d _ _ levels-answer (answers-done d _))
 
@@ -75,8 +78,15 @@ levels-long d s (suc (suc (suc c))) h = absurd (omega arith)
 -- ---- lines and level worked out anew
 
 -- three others stored in an array of controllers, as code does it
-abbrev pub stored3 : List Controller → Controller → Controller → Controller → List Controller
+abbrev pub stored3 : {A : Type 0} → List A → A → A → A → List A
 stored3 cs x y z = set (set (set cs 0 x) 1 y) 2 z
+
+-- what they stand for
+pub stored-viewed : (cs : List HeldController) (x y z : HeldController)
+    → map viewController (stored3 cs x y z) ≡ stored3 (map viewController cs) (viewController x) (viewController y) (viewController z)
+stored-viewed cs x y z =
+    map-set viewController (set (set cs 0 x) 1 y) 2 z
+    ∙ ap (λ l. set l 2 (viewController z)) (map-set viewController (set cs 0 x) 1 y ∙ ap (λ l. set l 1 (viewController y)) (map-set viewController cs 0 x))
 
 -- d with three controllers
 abbrev pub with3 : Device → Controller → Controller → Controller → Device
@@ -96,7 +106,7 @@ module _ (d : Device) (a b c : Controller) (s : Sound (with3 d a b c)) where
   unfolding bitsOf
   lines-fit i = driven-fits i (d .int) _ (holds-fits (LINES i) (with3 d a b c) s)
 
-  three-does : (n : ℕ) → n < 2 ^ 8 → n ≡ max (levelIn (d .«ignore_masks») z) (max (levelIn (d .«ignore_masks») y) (levelIn (d .«ignore_masks») x))
+  three-does : (n : ℕ) → n < 2 ^ 8 → n ≡ max (levelIn (d .ignore) z) (max (levelIn (d .ignore) y) (levelIn (d .ignore) x))
       → Does relevel (with3 d a b c) (withLevel (with3 d x y z) n)
   unfolding relevel bitsOf x y z
   three-does n h e =
@@ -111,18 +121,29 @@ module _ (d : Device) (a b c : Controller) (s : Sound (with3 d a b c)) where
       (subst (λ (v : ℕ). Does (put LEVEL v) (with3 d x y z) r) e (does-put (with3 d x y z) LEVEL n h))))))))
 
 -- as code works them out: the lines of each, then the highest of their levels
-pub made-anew : (ignore : Bool) (int : ℕ) (cs : List Controller) {x y z : Controller} {l0 l1 l2 m n : ℕ} → x ≡ drivenIn int cs 0 → y ≡ drivenIn int cs 1 → z ≡ drivenIn int cs 2
-    → l0 ≡ levelIn ignore x → l1 ≡ levelIn ignore y → l2 ≡ levelIn ignore z → m ≡ max l1 l0 → n ≡ max l2 m
-    → (stored3 cs x y z ≡ controllersIn int cs) × (n ≡ highestIn ignore int cs)
-made-anew ignore int cs ex ey ez e0 e1 e2 em en = (rw (ex, ey, ez), en ∙ rw (em, e2, e1, e0, ex, ey, ez) refl)
+abbrev drivenHeld : ℕ → List HeldController → ℕ → Controller
+drivenHeld int cs c = let k = getD cs c noHeld in withLines (viewController k) (driven c int (k .lines))
+
+driven-viewed : (int : ℕ) (cs : List HeldController) (c : ℕ) → drivenHeld int cs c ≡ drivenIn int (map viewController cs) c
+driven-viewed int cs c = ap (λ (k : Controller). withLines k (driven c int (k .lines))) (sym (controller-viewed cs c))
+
+pub made-anew : (ignore : Bool) (int : ℕ) (cs : List HeldController) {x y z : HeldController} {l0 l1 l2 m n : ℕ}
+    → viewController x ≡ drivenHeld int cs 0 → viewController y ≡ drivenHeld int cs 1 → viewController z ≡ drivenHeld int cs 2
+    → l0 ≡ levelIn ignore (viewController x) → l1 ≡ levelIn ignore (viewController y) → l2 ≡ levelIn ignore (viewController z) → m ≡ max l1 l0 → n ≡ max l2 m
+    → (map viewController (stored3 cs x y z) ≡ controllersIn int (map viewController cs)) × (n ≡ highestIn ignore int (map viewController cs))
+made-anew ignore int cs {x} {y} {z} ex ey ez e0 e1 e2 em en =
+    let p = ex ∙ driven-viewed int cs 0 in
+    let q = ey ∙ driven-viewed int cs 1 in
+    let r = ez ∙ driven-viewed int cs 2 in
+    (stored-viewed cs x y z ∙ rw (p, q, r) refl, en ∙ rw (em, e2, e1, e0, p, q, r) refl)
 
 -- a device with them
 pub relevel-does : (d : Device) → Sound d → {cs : List Controller} {n : ℕ} → cs ≡ controllersIn (d .int) (d .controllers)
-    → n ≡ highestIn (d .«ignore_masks») (d .int) (d .controllers) → n < 2 ^ 8 → Does relevel d (withLevel (withControllers d cs) n)
+    → n ≡ highestIn (d .ignore) (d .int) (d .controllers) → n < 2 ^ 8 → Does relevel d (withLevel (withControllers d cs) n)
 relevel-does d s {n = n} lines e h =
     rw lines
     (in-three
-    (λ cs. Sound (withControllers d cs) → n ≡ highestIn (d .«ignore_masks») (d .int) cs → Does relevel (withControllers d cs) (withLevel (withControllers d (controllersIn (d .int) cs)) n))
+    (λ cs. Sound (withControllers d cs) → n ≡ highestIn (d .ignore) (d .int) cs → Does relevel (withControllers d cs) (withLevel (withControllers d (controllersIn (d .int) cs)) n))
     (λ a b c t k. unfold x y z in three-does d a b c t n h k)
     (d .controllers) (s .three) s e)
 
@@ -142,9 +163,9 @@ module _ (d : Device) (l i : ℕ) where
       (answers-done _ _))
 
 -- as code makes it: what is heard from each, then that source is heard
-pub acknowledge-answers : (d : Device) → Sound d → (ipl : ℕ) {h0 h1 h2 : Found} → h0 ≡ above 0 (loudIn ipl (d .«ignore_masks») (controller (d .controllers) 0)) (0, 0)
-    → h1 ≡ above 1 (loudIn ipl (d .«ignore_masks») (controller (d .controllers) 1)) h0
-    → h2 ≡ above 2 (loudIn ipl (d .«ignore_masks») (controller (d .controllers) 2)) h1
+pub acknowledge-answers : (d : Device) → Sound d → (ipl : ℕ) {h0 h1 h2 : Found} → h0 ≡ above 0 (loudIn ipl (d .ignore) (controller (d .controllers) 0)) (0, 0)
+    → h1 ≡ above 1 (loudIn ipl (d .ignore) (controller (d .controllers) 1)) h0
+    → h2 ≡ above 2 (loudIn ipl (d .ignore) (controller (d .controllers) 2)) h1
     → (a : Heard) (r : Device) → Answers (hear h2) d a r → Answers (acknowledge ipl) d a r
 unfolding acknowledge
 acknowledge-answers d s ipl e0 e1 e2 a r h =
@@ -152,3 +173,14 @@ acknowledge-answers d s ipl e0 e1 e2 a r h =
     (rw (← e0) (answers-bind _ _ d d r _ _ (heard-answers d 1 (levels-long d s 1 (omega arith)) ipl _)
     (rw (← e1) (answers-bind _ _ d d r _ _ (heard-answers d 2 (levels-long d s 2 (omega arith)) ipl _)
     (rw (← e2) h)))))
+
+-- the same of a device as code holds it
+abbrev heardHeld : HeldDevice → ℕ → ℕ → Found
+heardHeld d ipl c = loudIn ipl (d .«ignore_masks») (viewController (getD (d .controllers) c noHeld))
+
+pub acknowledge-held : (d : HeldDevice) → Sound (view d) → (ipl : ℕ) {h0 h1 h2 : Found} → h0 ≡ above 0 (heardHeld d ipl 0) (0, 0) → h1 ≡ above 1 (heardHeld d ipl 1) h0 → h2 ≡ above 2 (heardHeld d ipl 2) h1
+    → (a : Heard) (r : Device) → Answers (hear h2) (view d) a r → Answers (acknowledge ipl) (view d) a r
+acknowledge-held d s ipl {h0} {h1} {h2} e0 e1 e2 = acknowledge-answers (view d) s ipl (e0 ∙ at 0 (0, 0)) (e1 ∙ at 1 h0) (e2 ∙ at 2 h1)
+  where
+    at : (c : ℕ) (below : Found) → above c (heardHeld d ipl c) below ≡ above c (loudIn ipl (d .«ignore_masks») (controller (map viewController (d .controllers)) c)) below
+    at c below = ap (λ (k : Controller). above c (loudIn ipl (d .«ignore_masks») k) below) (sym (controller-viewed (d .controllers) c))

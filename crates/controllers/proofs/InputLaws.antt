@@ -1,7 +1,7 @@
 -- The acts that give the device its inputs, said of its fields. Assumes nothing.
 use mathlib.Core.Bool.{cond}
-use mathlib.Core.List.{List}
-use mathlib.Core.Path.{_≡_}
+use mathlib.Core.List.{List, map}
+use mathlib.Core.Path.{_≡_, sym, ap, _∙_}
 use Prim.Native.Nat.{ℕ, zero, suc, _+_, _-_, _^_, _≤_, _<_}
 use native.Mathlib.Nat.{lt-of-le-of-lt}
 use native.Mathlib.Numerals.{add-one}
@@ -9,21 +9,24 @@ use native.Mathlib.Omega.{arith}
 use lib.Bits.{bitAnd, bitOr, or-lt, and-le-r}
 use lib.Dec.{eqb}
 use lib.ListN.{getD}
-use Rattle.rules.specs.declared.Controller.{Controller}
-use Rattle.rules.specs.declared.Device.{Device}
+use Rattle.rules.specs.State.{Controller, Device}
 use Rattle.rules.specs.Act.{ERQ, KICK, STANDING, LINES, PENDING}
 use Rattle.rules.specs.Calls.{setInputs}
 use Rattle.rules.specs.Fields.{controller, bitsOf}
 use Rattle.rules.specs.Lines.{ownedFrom}
 use Rattle.rules.specs.Run.{waiting, requesting}
+use Rattle.rules.specs.View.{viewController, view}
 use Rattle.rules.specs.With.{withControllers, withKick, withLines, withStanding}
 use Rattle.rules.specs.Words.{gain}
+use Rattle.rules.specs.declared.Controller.{Controller as HeldController}
+use Rattle.rules.specs.declared.Device.{Device as HeldDevice}
 use Rattle.rules.proofs.FieldLaws.{in-three, Sound, holds-fits}
+use Rattle.rules.proofs.ViewLaws.{noHeld, controller-viewed}
 use Rattle.flow.specs.Does.{Answers, Does}
 use Rattle.flow.proofs.DoesLaws.{answers-done, answers-ask, answers-bind, answers-then, does-put, does-change}
 use Rattle.controllers.specs.Waiting.{waitingIn}
 use Rattle.controllers.proofs.MaskParts.{owned-fits}
-use Rattle.controllers.proofs.DeviceLaws.{stored3, with3}
+use Rattle.controllers.proofs.DeviceLaws.{stored3, stored-viewed, with3}
 
 -- ---- requesting channels
 
@@ -53,6 +56,13 @@ waiting-end counts i m whole h w = let q : 64 - i ≡ 0 = omega arith in rw q at
 -- controller c of d with lines that are given
 abbrev pub giving : Device → ℕ → ℕ → Controller
 giving d c lines = withLines (controller (d .controllers) c) (ownedFrom c (controller (d .controllers) c .lines) lines)
+
+-- the same of one as code holds it
+abbrev pub givingHeld : HeldDevice → ℕ → ℕ → Controller
+givingHeld d c lines = let k = getD (d .controllers) c noHeld in withLines (viewController k) (ownedFrom c (k .lines) lines)
+
+giving-viewed : (d : HeldDevice) (c lines : ℕ) → givingHeld d c lines ≡ giving (view d) c lines
+giving-viewed d c lines = ap (λ (k : Controller). withLines k (ownedFrom c (k .lines) lines)) (sym (controller-viewed (d .controllers) c))
 
 -- KICK gains those that request and have their ERQ bit set
 abbrev pub gaining : Device → ℕ → ℕ
@@ -109,3 +119,9 @@ module _ (s l0 l1 l2 : ℕ) (hs : s < 2 ^ 64) (h0 : l0 < 2 ^ 64) (h1 : l1 < 2 ^ 
       → Does (setInputs s l0 l1 l2) (withControllers d cs) (withKick (given d (all d cs)) (gaining d asking)))
       (λ a b c t asks. unfold x y z in three-given d a b c t asking asks)
       (d .controllers) (t .three) t)
+
+  -- the same of a device as code holds it
+  pub inputs-held : (d : HeldDevice) → Sound (view d) → (asking : ℕ) {x y z : HeldController} → viewController x ≡ givingHeld d 0 l0 → viewController y ≡ givingHeld d 1 l1 → viewController z ≡ givingHeld d 2 l2
+      → let e = given (view d) (map viewController (stored3 (d .controllers) x y z)) in Answers requesting e asking e → Does (setInputs s l0 l1 l2) (view d) (withKick e (gaining (view d) asking))
+  inputs-held d t asking {x} {y} {z} ex ey ez =
+      rw (stored-viewed (d .controllers) x y z) (inputs-does (view d) t asking (ex ∙ giving-viewed d 0 l0) (ey ∙ giving-viewed d 1 l1) (ez ∙ giving-viewed d 2 l2))

@@ -4,7 +4,7 @@ use mathlib.Core.List.{List}
 use Prim.Native.Nat.{ℕ, max}
 use lib.Dec.{leb}
 use lib.ListN.{set}
-use Rattle.rules.specs.declared.Controller.{Controller}
+use Rattle.rules.specs.State.{Controller}
 use Rattle.rules.specs.Fields.{controller}
 use Rattle.rules.specs.With.{withLines}
 use Rattle.rules.specs.Lines.{driven, deliverable, loudest, answers, loudestAbove, Found}

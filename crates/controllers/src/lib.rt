@@ -8,6 +8,8 @@ ghost use mathlib.Core.Bool.{cond};
 ghost use Prim.Native.Nat.{_+_, _*_, _^_, _≤_, _<_, max};
 ghost use lib.Dec.{eqb};
 ghost use lib.ListN.{length};
+ghost use mathlib.Core.List.{map};
+ghost use Rattle.rules.specs.View.{viewController, view};
 ghost use Rattle.rules.specs.Lines.{bitsFrom, withBitsFrom, ownedFrom, driven, loudest, relevel, answers, loudestAbove, above, hear, acknowledge};
 ghost use Rattle.rules.specs.Calls.{setInputs, setPending};
 ghost use Rattle.rules.specs.Run.{requesting};
@@ -70,7 +72,7 @@ pub fn driven(c: usize, int: u64, lines: u64) -> u64
 
 // "Deliverable: lines not masked, or forced (with the ignore setting, lines or forced)." Forced ones are not masked.
 pub fn deliverable(k: Controller, ignore: bool) -> u64
-    ensures { λ r. ⌜ r ≡ sourcesOf ignore k ⌝ }
+    ensures { λ r. ⌜ r ≡ sourcesOf ignore (viewController k) ⌝ }
 {
     if ignore {
         return k.lines | k.forced;
@@ -104,7 +106,7 @@ pub fn loudest(levels: &[u8], m: u64) -> u8
 
 // The level of one controller.
 pub fn level_of(k: Controller, ignore: bool) -> u8
-    ensures { λ r. ⌜ r ≡ levelIn ignore k ⌝ }
+    ensures { λ r. ⌜ r ≡ levelIn ignore (viewController k) ⌝ }
 {
     let levels = k.levels;
     loudest(&levels, deliverable(k, ignore))
@@ -112,7 +114,7 @@ pub fn level_of(k: Controller, ignore: bool) -> u8
 
 // A controller with the lines that INT drives; the others stay.
 fn driven_by(int: u64, c: usize, k: Controller) -> Controller
-    ensures { λ r. ⌜ r ≡ withLines k (driven c int (k .lines)) ⌝ }
+    ensures { λ r. ⌜ viewController r ≡ withLines (viewController k) (driven c int (k .lines)) ⌝ }
 {
     let mut e = k;
     e.lines = driven(c, int, k.lines);
@@ -127,7 +129,7 @@ pub struct Levelled {
 
 // Lines and level worked out anew, for callers that hold the controllers apart.
 pub fn relevelled(controllers: [Controller; 3], int: u64, ignore: bool) -> Levelled
-    ensures { λ r. ⌜ (r .controllers ≡ controllersIn int controllers) × (r .level ≡ highestIn ignore int controllers) ⌝ }
+    ensures { λ r. ⌜ (map viewController (r .controllers) ≡ controllersIn int (map viewController controllers)) × (r .level ≡ highestIn ignore int (map viewController controllers)) ⌝ }
 {
     let x = driven_by(int, 0, controllers[0]);
     let y = driven_by(int, 1, controllers[1]);
@@ -146,7 +148,7 @@ pub fn relevelled(controllers: [Controller; 3], int: u64, ignore: bool) -> Level
 
 // "Each accepted act but acknowledge ends by working out lines and level anew."
 pub fn update_irq(d: Device) -> Device
-    ensures { λ r. ⌜ Does relevel d r ⌝ }
+    ensures { λ r. ⌜ Does relevel (view d) (view r) ⌝ }
 {
     let before = d.controllers;
     let r = relevelled(before, d.int, d.ignore_masks);
@@ -222,7 +224,7 @@ fn above(c: usize, here: Loud, below: Loud) -> Loud
 // The loudest of one controller, and what was found in those below it.
 pub fn heard_from(ipl: u8, c: usize, k: Controller, ignore: bool, below: Loud) -> Loud
     requires { ⌜ (c < 3) × (below .at < 192) ⌝ }
-    ensures { λ r. ⌜ (found r ≡ above c (loudIn ipl ignore k) (found below)) × (r .at < 192) ⌝ }
+    ensures { λ r. ⌜ (found r ≡ above c (loudIn ipl ignore (viewController k)) (found below)) × (r .at < 192) ⌝ }
 {
     let levels = k.levels;
     above(
@@ -241,7 +243,7 @@ pub struct Answered {
 // "It answers that level and vector 64 + 64 x controller + source, whose taken count rises." Counts wrap at 2^64.
 fn hear(d: Device, loud: Loud) -> Answered
     requires { ⌜ loud .at < 192 ⌝ }
-    ensures { λ r. ⌜ Answers (hear (found loud)) d (r .heard) (r .device) ⌝ }
+    ensures { λ r. ⌜ Answers (hear (found loud)) (view d) (r .heard) (view (r .device)) ⌝ }
 {
     if loud.level == 0 {
         return Answered {
@@ -260,7 +262,7 @@ fn hear(d: Device, loud: Loud) -> Answered
 
 // The controllers are searched in rising order, and what is found is heard.
 pub fn ack_irq(d: Device, ipl: u8) -> Answered
-    ensures { λ r. ⌜ Answers (acknowledge ipl) d (r .heard) (r .device) ⌝ }
+    ensures { λ r. ⌜ Answers (acknowledge ipl) (view d) (r .heard) (view (r .device)) ⌝ }
 {
     let ignore = d.ignore_masks;
     let nothing = Loud { level: 0, at: 0 };
@@ -299,7 +301,7 @@ pub fn waiting(standing: u64, pending: &[u32]) -> u64
 
 // "A channel requests if its standing bit is set or its pending count is above 0": those that do.
 pub fn requesting(d: Device) -> u64
-    ensures { λ r. ⌜ Answers requesting d r d ⌝ }
+    ensures { λ r. ⌜ Answers requesting (view d) r (view d) ⌝ }
 {
     let pending = d.pending;
     waiting(d.standing, &pending)
@@ -307,7 +309,7 @@ pub fn requesting(d: Device) -> u64
 
 // A controller with lines that are given: "the masks replace the old ones, except DMA-owned line bits".
 fn given(lines: u64, c: usize, k: Controller) -> Controller
-    ensures { λ r. ⌜ r ≡ withLines k (ownedFrom c (k .lines) lines) ⌝ }
+    ensures { λ r. ⌜ viewController r ≡ withLines (viewController k) (ownedFrom c (k .lines) lines) ⌝ }
 {
     let mut e = k;
     e.lines = owned_from(c, k.lines, lines);
@@ -316,7 +318,7 @@ fn given(lines: u64, c: usize, k: Controller) -> Controller
 
 // "Device inputs: standing request mask and three line masks. [..] Then KICK gains every requesting channel with its ERQ bit set."
 pub fn with_inputs(d: Device, standing: u64, l0: u64, l1: u64, l2: u64) -> Device
-    ensures { λ r. ⌜ Does (setInputs standing l0 l1 l2) d r ⌝ }
+    ensures { λ r. ⌜ Does (setInputs standing l0 l1 l2) (view d) (view r) ⌝ }
 {
     let x = given(l0, 0, d.controllers[0]);
     let y = given(l1, 1, d.controllers[1]);
@@ -333,7 +335,7 @@ pub fn with_inputs(d: Device, standing: u64, l0: u64, l1: u64, l2: u64) -> Devic
 // "Pending: stores a 32-bit count for one channel."
 pub fn with_pending(d: Device, ch: usize, count: u32) -> Device
     requires { ⌜ ch < 64 ⌝ }
-    ensures { λ r. ⌜ Does (setPending ch count) d r ⌝ }
+    ensures { λ r. ⌜ Does (setPending ch count) (view d) (view r) ⌝ }
 {
     let mut e = d;
     e.pending[ch] = count;

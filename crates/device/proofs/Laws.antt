@@ -10,7 +10,7 @@ use lib.Dec.{leb, ltb, lit≤}
 use lib.ListN.{length, getD, drop, List·getD-append}
 use Rattle.rules.specs.Act.{Field, CR, ERQ, EEI, INT, ERR, KICK, DEFERRED, DEADLINE, LEVEL, STANDING, MASKS, FORCED, LINES, CONFIG, BUSY, MAJORS, PENDING, SOURCE, TAKEN}
 use Rattle.rules.specs.Fields.{joined, bitsOf, ofController, partsOf, controller, withSome, withNumber, fieldAt, fitsSome}
-use Rattle.rules.specs.declared.Device.{Device}
+use Rattle.rules.specs.State.{Device}
 use Rattle.rules.proofs.FieldLaws.{Sound, sized, holds-fits, bitParts, fieldBits, Agrees}
 use Rattle.rules.proofs.Numbers.{agrees-at}
 use Rattle.device.specs.declared.Spot.{Spot}

@@ -6,7 +6,7 @@ use lib.ListN.{length}
 use Rattle.rules.specs.Act.{Field, BUSY, MAJORS, PENDING, SOURCE, TAKEN}
 use Rattle.rules.specs.Bytes.{Bytes}
 use Rattle.rules.specs.Fields.{bitsOf, ofController, fieldAt}
-use Rattle.rules.specs.declared.Controller.{Controller}
+use Rattle.rules.specs.State.{Controller}
 use Rattle.device.specs.declared.Spot.{Spot}
 use Rattle.device.specs.declared.Spot.the-variants.{Nowhere, Scalar, Own, Busy, Majors, Pending, Source, Taken}
 

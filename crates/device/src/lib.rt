@@ -8,12 +8,13 @@ ghost use Prim.Native.Nat.{_<_, _^_};
 ghost use Rattle.rules.specs.Act.{MASKS, FORCED, LINES, CONFIG, BUSY, MAJORS, PENDING, SOURCE, TAKEN};
 ghost use Rattle.rules.specs.Fields.{controller, withField, withNumber, bitsOf, ofController, fieldAt, fitsSome};
 ghost use Rattle.rules.specs.Calls.{fresh, freshController};
+ghost use Rattle.rules.specs.View.{viewController, view};
 ghost use Rattle.device.specs.Spots.{Fits, Found, bitsAt};
 
 // ---- "A fresh device is zero in every field, except masks (all ones) and deadline (2^64 - 1)."
 
 fn fresh_controller() -> Controller
-    ensures { λ r. ⌜ r ≡ freshController ⌝ }
+    ensures { λ r. ⌜ viewController r ≡ freshController ⌝ }
 {
     Controller {
         masks: 0xFFFFFFFFFFFFFFFF,
@@ -26,7 +27,7 @@ fn fresh_controller() -> Controller
 
 // "Ignoring masks is a setting no call changes": it is chosen here.
 pub fn fresh(ignore_masks: bool) -> Device
-    ensures { λ r. ⌜ r ≡ fresh «ignore_masks» ⌝ }
+    ensures { λ r. ⌜ view r ≡ fresh «ignore_masks» ⌝ }
 {
     let c = fresh_controller();
     Device {
@@ -54,14 +55,14 @@ pub fn fresh(ignore_masks: bool) -> Device
 
 pub fn controller_at(d: Device, c: usize) -> Controller
     requires { ⌜ c < 3 ⌝ }
-    ensures { λ r. ⌜ (r ≡ controller (d .controllers) c) × (Fits r) ⌝ }
+    ensures { λ r. ⌜ (viewController r ≡ controller (view d .controllers) c) × Fits (viewController r) ⌝ }
 {
     d.controllers[c]
 }
 
 pub fn with_masks(d: Device, c: usize, v: u64) -> Device
     requires { ⌜ c < 3 ⌝ }
-    ensures { λ r. ⌜ r ≡ withField (MASKS c) v d ⌝ }
+    ensures { λ r. ⌜ view r ≡ withField (MASKS c) v (view d) ⌝ }
 {
     let mut e = d;
     e.controllers[c].masks = v;
@@ -70,7 +71,7 @@ pub fn with_masks(d: Device, c: usize, v: u64) -> Device
 
 pub fn with_forced(d: Device, c: usize, v: u64) -> Device
     requires { ⌜ c < 3 ⌝ }
-    ensures { λ r. ⌜ r ≡ withField (FORCED c) v d ⌝ }
+    ensures { λ r. ⌜ view r ≡ withField (FORCED c) v (view d) ⌝ }
 {
     let mut e = d;
     e.controllers[c].forced = v;
@@ -79,7 +80,7 @@ pub fn with_forced(d: Device, c: usize, v: u64) -> Device
 
 pub fn with_lines(d: Device, c: usize, v: u64) -> Device
     requires { ⌜ c < 3 ⌝ }
-    ensures { λ r. ⌜ r ≡ withField (LINES c) v d ⌝ }
+    ensures { λ r. ⌜ view r ≡ withField (LINES c) v (view d) ⌝ }
 {
     let mut e = d;
     e.controllers[c].lines = v;
@@ -88,7 +89,7 @@ pub fn with_lines(d: Device, c: usize, v: u64) -> Device
 
 pub fn with_config(d: Device, c: usize, v: u16) -> Device
     requires { ⌜ c < 3 ⌝ }
-    ensures { λ r. ⌜ r ≡ withField (CONFIG c) v d ⌝ }
+    ensures { λ r. ⌜ view r ≡ withField (CONFIG c) v (view d) ⌝ }
 {
     let mut e = d;
     e.controllers[c].config = v;
@@ -97,7 +98,7 @@ pub fn with_config(d: Device, c: usize, v: u16) -> Device
 
 pub fn with_source(d: Device, c: usize, s: usize, v: u8) -> Device
     requires { ⌜ (c < 3) × (s < 64) ⌝ }
-    ensures { λ r. ⌜ r ≡ withField (SOURCE c s) v d ⌝ }
+    ensures { λ r. ⌜ view r ≡ withField (SOURCE c s) v (view d) ⌝ }
 {
     let mut k = d.controllers[c];
     k.levels[s] = v;
@@ -110,7 +111,7 @@ pub fn with_source(d: Device, c: usize, s: usize, v: u8) -> Device
 
 pub fn with_busy(d: Device, ch: usize, v: u64) -> Device
     requires { ⌜ ch < 64 ⌝ }
-    ensures { λ r. ⌜ r ≡ withField (BUSY ch) v d ⌝ }
+    ensures { λ r. ⌜ view r ≡ withField (BUSY ch) v (view d) ⌝ }
 {
     let mut e = d;
     e.busy[ch] = v;
@@ -119,7 +120,7 @@ pub fn with_busy(d: Device, ch: usize, v: u64) -> Device
 
 pub fn with_majors(d: Device, ch: usize, v: u64) -> Device
     requires { ⌜ ch < 64 ⌝ }
-    ensures { λ r. ⌜ r ≡ withField (MAJORS ch) v d ⌝ }
+    ensures { λ r. ⌜ view r ≡ withField (MAJORS ch) v (view d) ⌝ }
 {
     let mut e = d;
     e.majors[ch] = v;
@@ -128,7 +129,7 @@ pub fn with_majors(d: Device, ch: usize, v: u64) -> Device
 
 pub fn with_pending(d: Device, ch: usize, v: u32) -> Device
     requires { ⌜ ch < 64 ⌝ }
-    ensures { λ r. ⌜ r ≡ withField (PENDING ch) v d ⌝ }
+    ensures { λ r. ⌜ view r ≡ withField (PENDING ch) v (view d) ⌝ }
 {
     let mut e = d;
     e.pending[ch] = v;
@@ -137,7 +138,7 @@ pub fn with_pending(d: Device, ch: usize, v: u32) -> Device
 
 pub fn with_taken(d: Device, i: usize, v: u64) -> Device
     requires { ⌜ i < 192 ⌝ }
-    ensures { λ r. ⌜ r ≡ withField (TAKEN i) v d ⌝ }
+    ensures { λ r. ⌜ view r ≡ withField (TAKEN i) v (view d) ⌝ }
 {
     let mut e = d;
     e.taken[i] = v;
@@ -219,7 +220,7 @@ pub fn field_bits(n: usize) -> u32
 
 fn with_scalar(d: Device, n: usize, v: u64) -> Device
     requires { ⌜ (n < 10) × (fitsSome (fieldAt n) v ≡ true) ⌝ }
-    ensures { λ r. ⌜ r ≡ withNumber n v d ⌝ }
+    ensures { λ r. ⌜ view r ≡ withNumber n v (view d) ⌝ }
 {
     let mut e = d;
     match n {
@@ -239,7 +240,7 @@ fn with_scalar(d: Device, n: usize, v: u64) -> Device
 
 fn with_own(d: Device, c: usize, k: usize, v: u64) -> Device
     requires { ⌜ (c < 3) × (k < 4) × (v < 2 ^ bitsOf (ofController k c)) ⌝ }
-    ensures { λ r. ⌜ r ≡ withField (ofController k c) v d ⌝ }
+    ensures { λ r. ⌜ view r ≡ withField (ofController k c) v (view d) ⌝ }
 {
     match k {
         0 => with_masks(d, c, v),
@@ -252,7 +253,7 @@ fn with_own(d: Device, c: usize, k: usize, v: u64) -> Device
 // The device with `v` in the field of a number.
 pub fn with_number(d: Device, n: usize, v: u64) -> Device
     requires { ⌜ fitsSome (fieldAt n) v ≡ true ⌝ }
-    ensures { λ r. ⌜ r ≡ withNumber n v d ⌝ }
+    ensures { λ r. ⌜ view r ≡ withNumber n v (view d) ⌝ }
 {
     let spot = spot_of(n);
     match spot {

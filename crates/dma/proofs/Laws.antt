@@ -8,7 +8,7 @@ use borrow.Author.Tests.{ne-eqb}
 use lib.Bits.{bitOr}
 use lib.Dec.{ltb}
 use lib.ListN.{length}
-use Rattle.rules.specs.declared.Device.{Device}
+use Rattle.rules.specs.State.{Device}
 use Rattle.rules.specs.Act.{Act, Field, table, nothing, fetch, store, change, when, _>>=_, _>>_, KICK}
 use Rattle.rules.specs.Bytes.{number}
 use Rattle.rules.specs.Calls.{isNone, orNothing, worldOf, badSize}

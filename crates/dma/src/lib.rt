@@ -6,6 +6,7 @@ ghost use mathlib.Core.Path.{_≡_};
 ghost use mathlib.Core.Bool.{false, not};
 ghost use Prim.Native.Nat.{ℕ, _+_, _≤_, _<_};
 ghost use lib.ListN.{length, drop};
+ghost use Rattle.rules.specs.View.{view};
 ghost use Rattle.rules.specs.Calls.{badSize, isNone, orNothing};
 ghost use Rattle.rules.specs.Registers.{inTable, tableWrite, pick, dmaArms, dmaWrite};
 ghost use Rattle.flow.specs.Does.{Does};
@@ -77,7 +78,7 @@ fn starts(table: &[u8; 2048], off: usize, size: usize) -> bool
 // "A guest descriptor write is one of its size"; where it starts its channel, it "sets that KICK bit".
 pub fn tcd_write(d: Device, off: u32, size: u32, v: u32, journal: &mut [u8], at: usize) -> Reached
     requires { ⌜ (badSize size ≡ false) × (off + size ≤ 2048) ⌝ }
-    ensures { λ r. ⌜ Reaches (tableWrite off size v) d at r (now (journal .entry)) (now (journal .exit)) ⌝ }
+    ensures { λ r. ⌜ Reaches (tableWrite off size v) (view d) at r (now (journal .entry)) (now (journal .exit)) ⌝ }
 {
     let place = off as usize;
     let width = size as usize;
@@ -96,7 +97,7 @@ pub fn tcd_write(d: Device, off: u32, size: u32, v: u32, journal: &mut [u8], at:
 
 // INT and ERR lose the bits that are written: the last four arms.
 fn flags_written(d: Device, off: u32, v: u32) -> Device
-    ensures { λ r. ⌜ Does (orNothing (pick off 4 (drop 7 (dmaArms v)))) d r ⌝ }
+    ensures { λ r. ⌜ Does (orNothing (pick off 4 (drop 7 (dmaArms v)))) (view d) (view r) ⌝ }
 {
     let mut e = d;
     let high = (v as u64) * 0x100000000;
@@ -124,7 +125,7 @@ fn flags_written(d: Device, off: u32, v: u32) -> Device
 // CR, and half of ERQ or EEI. A word written to ERQ sets no KICK bit.
 fn masks_written(d: Device, off: u32, v: u32) -> Device
     requires { ⌜ (off ≡ 0x18 → ⊥) × (off ≡ 0x1C → ⊥) ⌝ }
-    ensures { λ r. ⌜ Does (orNothing (pick off 4 (dmaArms v))) d r ⌝ }
+    ensures { λ r. ⌜ Does (orNothing (pick off 4 (dmaArms v))) (view d) (view r) ⌝ }
 {
     let mut e = d;
     match off {
@@ -154,7 +155,7 @@ fn masks_written(d: Device, off: u32, v: u32) -> Device
 
 fn word_written(d: Device, off: u32, v: u32, journal: &mut [u8], at: usize) -> Reached
     requires { ⌜ inTable off ≡ false ⌝ }
-    ensures { λ r. ⌜ Reaches (orNothing (dmaWrite off 4 v)) d at r (now (journal .entry)) (now (journal .exit)) ⌝ }
+    ensures { λ r. ⌜ Reaches (orNothing (dmaWrite off 4 v)) (view d) at r (now (journal .entry)) (now (journal .exit)) ⌝ }
 {
     let s = Reached {
         walk: Walk::On(at),
@@ -175,7 +176,7 @@ fn word_written(d: Device, off: u32, v: u32, journal: &mut [u8], at: usize) -> R
 // A command byte; the priorities of the channels, 0x100..0x13F, are not kept.
 fn byte_written(d: Device, off: u32, v: u32, journal: &mut [u8], at: usize) -> Reached
     requires { ⌜ inTable off ≡ false ⌝ }
-    ensures { λ r. ⌜ Reaches (orNothing (dmaWrite off 1 v)) d at r (now (journal .entry)) (now (journal .exit)) ⌝ }
+    ensures { λ r. ⌜ Reaches (orNothing (dmaWrite off 1 v)) (view d) at r (now (journal .entry)) (now (journal .exit)) ⌝ }
 {
     let s = Reached {
         walk: Walk::On(at),
@@ -193,7 +194,7 @@ fn byte_written(d: Device, off: u32, v: u32, journal: &mut [u8], at: usize) -> R
 // register, nothing is done.
 pub fn edma_write(d: Device, off: u32, size: u32, v: u32, journal: &mut [u8], at: usize) -> Reached
     requires { ⌜ Fair off size ⌝ }
-    ensures { λ r. ⌜ Reaches (orNothing (dmaWrite off size v)) d at r (now (journal .entry)) (now (journal .exit)) ⌝ }
+    ensures { λ r. ⌜ Reaches (orNothing (dmaWrite off size v)) (view d) at r (now (journal .entry)) (now (journal .exit)) ⌝ }
 {
     if intc::within(0x1000, 0x17FF, off) {
         return tcd_write(d, off - 0x1000, size, v, journal, at);

@@ -8,7 +8,8 @@ use Rattle.rules.specs.Calls.{worldOf}
 use Rattle.rules.specs.Carry.{Out, go}
 use Rattle.rules.specs.Minor.{START, DONE}
 use Rattle.rules.specs.Words.{gain, lose}
-use Rattle.rules.specs.declared.Device.{Device}
+use Rattle.rules.specs.State.{Device}
+use Rattle.rules.specs.View.{view}
 use Rattle.flow.specs.Worlds.{told, walked, on}
 use Rattle.flow.specs.declared.Step.{Step}
 use Rattle.flow.specs.declared.Walk.the-variants.{On}
@@ -21,7 +22,7 @@ flagged false = λ b. lose b DONE
 
 -- window and journal beside how far a write came
 abbrev pub reached : Reached → List ℕ → List ℕ → Out (Unit {0})
-reached r w j = walked (r .walk) (r .device) w j
+reached r w j = walked (r .walk) (view (r .device)) w j
 
 -- of a function that does an act on a device, from the journal's end `at` on
 abbrev pub Reaches : Act (Unit {0}) → Device → ℕ → Reached → List ℕ → List ℕ → Type 0

@@ -7,6 +7,7 @@ ghost use mathlib.Core.List.{List};
 ghost use mathlib.Core.Path.{_≡_};
 ghost use Prim.Native.Nat.{ℕ, _<_, _≤_};
 ghost use lib.Bits.{bitOr};
+ghost use Rattle.rules.specs.View.{view};
 ghost use Rattle.rules.specs.Act.{change, when, KICK};
 ghost use Rattle.rules.specs.Registers.{flagOne, flagEach, setRequests, setStarts, clearDones, command, commands};
 ghost use Rattle.flow.specs.Does.{Does};
@@ -23,7 +24,7 @@ pub struct Reached {
 
 // SERQ: the named channels get their ERQ bit, and KICK gains those of them that request.
 fn set_requests(d: Device, v: u32) -> Device
-    ensures { λ r. ⌜ Does (setRequests v) d r ⌝ }
+    ensures { λ r. ⌜ Does (setRequests v) (view d) (view r) ⌝ }
 {
     let m = intc::named(v);
     let mut e = d;
@@ -35,7 +36,7 @@ fn set_requests(d: Device, v: u32) -> Device
 // SERQ, CERQ, SEEI, CEEI, CINT, CERR: a mask gains or loses the named channels.
 fn scalar_command(d: Device, k: u32, v: u32) -> Device
     requires { ⌜ k < 6 ⌝ }
-    ensures { λ r. ⌜ Does (command k v) d r ⌝ }
+    ensures { λ r. ⌜ Does (command k v) (view d) (view r) ⌝ }
 {
     let m = intc::named(v);
     let mut e = d;
@@ -113,7 +114,7 @@ fn flag_each(s: Step, table: &mut [u8; 2048], start: bool, m: u64, journal: &mut
 
 // An act's stores begin at the journal's end `at`.
 pub fn begun(d: Device, at: usize) -> Step
-    ensures { λ r. ⌜ Begins d at r ⌝ }
+    ensures { λ r. ⌜ Begins (view d) at r ⌝ }
 {
     Step::Going(Flow {
         cr: d.cr,
@@ -126,7 +127,7 @@ pub fn begun(d: Device, at: usize) -> Step
 
 // The device with the table as the stores left it.
 pub fn put_back(d: Device, s: Step, table: [u8; 2048]) -> Reached
-    ensures { λ r. ⌜ Keeps d s table r ⌝ }
+    ensures { λ r. ⌜ Keeps (view d) s table r ⌝ }
 {
     let mut e = d;
     e.table = table;
@@ -156,7 +157,7 @@ pub fn put_back(d: Device, s: Step, table: [u8; 2048]) -> Reached
 
 // The flags of the channels in `m`, in the device.
 fn flag_channels(d: Device, at: usize, start: bool, m: u64, journal: &mut [u8]) -> Reached
-    ensures { λ r. ⌜ Reaches (flagEach (flagged start) m 64 0) d at r (now (journal .entry)) (now (journal .exit)) ⌝ }
+    ensures { λ r. ⌜ Reaches (flagEach (flagged start) m 64 0) (view d) at r (now (journal .entry)) (now (journal .exit)) ⌝ }
 {
     let mut table = d.table;
     let s = flag_each(begun(d, at), &mut table, start, m, journal);
@@ -184,7 +185,7 @@ pub fn with_kick(s: Reached, on: bool, m: u64) -> Reached
 
 // SSRT: the named channels get START, one record each, and then their KICK bits.
 fn set_starts(d: Device, at: usize, v: u32, journal: &mut [u8]) -> Reached
-    ensures { λ r. ⌜ Reaches (setStarts v) d at r (now (journal .entry)) (now (journal .exit)) ⌝ }
+    ensures { λ r. ⌜ Reaches (setStarts v) (view d) at r (now (journal .entry)) (now (journal .exit)) ⌝ }
 {
     let m = intc::named(v);
     with_kick(flag_channels(d, at, true, m, journal), true, m)
@@ -192,7 +193,7 @@ fn set_starts(d: Device, at: usize, v: u32, journal: &mut [u8]) -> Reached
 
 // CDNE: the named channels lose DONE.
 fn clear_dones(d: Device, at: usize, v: u32, journal: &mut [u8]) -> Reached
-    ensures { λ r. ⌜ Reaches (clearDones v) d at r (now (journal .entry)) (now (journal .exit)) ⌝ }
+    ensures { λ r. ⌜ Reaches (clearDones v) (view d) at r (now (journal .entry)) (now (journal .exit)) ⌝ }
 {
     flag_channels(d, at, false, intc::named(v), journal)
 }

@@ -4,6 +4,7 @@ use rules::Device;
 ghost use mathlib.Core.Path.{_≡_};
 ghost use mathlib.Core.Bool.{false};
 ghost use Prim.Native.Nat.{_+_, _≤_};
+ghost use Rattle.rules.specs.View.{view};
 ghost use Rattle.rules.specs.Bytes.{number, part};
 ghost use Rattle.rules.specs.Calls.{badSize};
 ghost use Rattle.rules.specs.Registers.{inTable, dmaRead};
@@ -26,7 +27,7 @@ pub fn tcd_read(d: Device, off: u32, size: u32) -> u32
 // A byte: the command bytes read 0.
 fn read_byte(d: Device, off: u32) -> Cell
     requires { ⌜ inTable off ≡ false ⌝ }
-    ensures { λ r. ⌜ reads r ≡ dmaRead d off 1 ⌝ }
+    ensures { λ r. ⌜ reads r ≡ dmaRead (view d) off 1 ⌝ }
 {
     if intc::within(0x18, 0x1F, off) {
         return Cell::Value(0);
@@ -37,7 +38,7 @@ fn read_byte(d: Device, off: u32) -> Cell
 // A word: CR, ES (always 0), half of ERQ, EEI, INT or ERR, and the two words of HRS, which read 0.
 fn read_word(d: Device, off: u32) -> Cell
     requires { ⌜ inTable off ≡ false ⌝ }
-    ensures { λ r. ⌜ reads r ≡ dmaRead d off 4 ⌝ }
+    ensures { λ r. ⌜ reads r ≡ dmaRead (view d) off 4 ⌝ }
 {
     match off {
         0x00 => Cell::Value(d.cr),
@@ -59,7 +60,7 @@ fn read_word(d: Device, off: u32) -> Cell
 // "Registers are exactly the arms of `edma_read` [..], and the descriptor table at DMA offsets 0x1000..0x17FF."
 pub fn edma_read(d: Device, off: u32, size: u32) -> Cell
     requires { ⌜ Fair off size ⌝ }
-    ensures { λ r. ⌜ reads r ≡ dmaRead d off size ⌝ }
+    ensures { λ r. ⌜ reads r ≡ dmaRead (view d) off size ⌝ }
 {
     if intc::within(0x1000, 0x17FF, off) {
         return Cell::Value(tcd_read(d, off - 0x1000, size));

@@ -16,7 +16,7 @@ use Rattle.rules.specs.Carry.{World, withDevice, go}
 use Rattle.rules.specs.Fields.{bitsOf}
 use Rattle.rules.specs.Run.{requesting, release, runAll, serviceAll}
 use Rattle.rules.specs.With.{withBusy, withDeferred, withKick}
-use Rattle.rules.specs.declared.Device.{Device}
+use Rattle.rules.specs.State.{Device}
 use Rattle.rules.specs.declared.Verdict.{Verdict}
 use Rattle.rules.proofs.BoolLaws.{neither}
 use Rattle.rules.proofs.CallLaws.{passed, window-fits}

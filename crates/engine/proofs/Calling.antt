@@ -9,7 +9,9 @@ use lib.ListN.{length, replicate}
 use Rattle.rules.specs.Calls.{Asked, run, service, Told, told, refusalNumber, verdictNumber, levelled, actOf, wrong, stagingAfter, worldOf, toldAfter, after}
 use Rattle.rules.specs.Carry.{perform}
 use Rattle.rules.specs.Run.{runAll, serviceAll}
-use Rattle.rules.specs.declared.Device.{Device}
+use Rattle.rules.specs.State.{Device}
+use Rattle.rules.specs.View.{view}
+use Rattle.rules.specs.declared.Device.{Device as HeldDevice}
 use Rattle.rules.specs.declared.Heard.the-variants as Heard
 use Rattle.rules.specs.declared.Refusal.{Refusal}
 use Rattle.rules.specs.declared.Refusal.the-variants as Refusal
@@ -63,12 +65,12 @@ told-moved v e x y {w} {s} {j} {u} h = ap (λ (d : Device). told (verdictNumber 
     moved = rw e refl
 
 -- a device, and its parts
-pub fine-parts : (d : Device) → Typed d → (k : Small) → k ≡ smallOf d → Fine (whole k (d .«ignore_masks») (d .table) (d .busy) (d .majors) (d .pending) (d .taken))
+pub fine-parts : (d : HeldDevice) → Typed d → (k : Small) → k ≡ smallOf d → Fine (whole k (d .«ignore_masks») (d .table) (d .busy) (d .majors) (d .pending) (d .taken))
 fine-parts d g k e = rw e (sound d g, omega (arith, table-size d g))
 
-pub whole-told : (call : Asked) (base : ℕ) (d : Device) (w s j : List ℕ) (used : ℕ) (k : Small) → k ≡ smallOf d → (n u : ℕ) (x e : Device) (w′ s′ j′ : List ℕ) → e ≡ x
-    → told n Heard.Nothing x w′ s′ j′ u ≡ after call base (whole k (d .«ignore_masks») (d .table) (d .busy) (d .majors) (d .pending) (d .taken)) w s j used
-    → told n Heard.Nothing e w′ s′ j′ u ≡ after call base d w s j used
+pub whole-told : (call : Asked) (base : ℕ) (d : HeldDevice) (w s j : List ℕ) (used : ℕ) (k : Small) → k ≡ smallOf d → (n u : ℕ) (x e : HeldDevice) (w′ s′ j′ : List ℕ) → e ≡ x
+    → told n Heard.Nothing (view x) w′ s′ j′ u ≡ after call base (whole k (d .«ignore_masks») (d .table) (d .busy) (d .majors) (d .pending) (d .taken)) w s j used
+    → told n Heard.Nothing (view e) w′ s′ j′ u ≡ after call base (view d) w s j used
 whole-told call base d w s j used k p n u x e w′ s′ j′ q h = rw q (rw p at h)
 
 module _ (base : ℕ) (d : Device) (w s j : List ℕ) (used : ℕ) where

@@ -1,6 +1,6 @@
 -- How a call ends whose turns came to a world: rolled back where it is refused, and closed where it is not. Assumes nothing.
 use mathlib.Core.Bool.{Bool}
-use mathlib.Core.List.{List, [], _∷_}
+use mathlib.Core.List.{List, [], _∷_, map}
 use mathlib.Core.Path.{_≡_, refl, sym, ap, _∙_, subst}
 use Prim.Native.Nat.{ℕ, _+_, _^_, _≤_, min}
 use lib.ListN.{length, take, drop, replicate, length-append, length-take, take-append-drop}
@@ -12,7 +12,8 @@ use Rattle.rules.specs.Carry.{Machine, World, Rec, stoodAt, stoodIn, ok, no, th
 use Rattle.rules.specs.Fields.{fieldsOf}
 use Rattle.rules.specs.Lines.{relevel}
 use Rattle.rules.specs.TakeBack.{soundStore}
-use Rattle.rules.specs.declared.Device.{Device}
+use Rattle.rules.specs.State.{Device}
+use Rattle.rules.specs.View.{viewController}
 use Rattle.rules.specs.declared.Heard.{Heard}
 use Rattle.rules.specs.declared.Heard.the-variants as Heard
 use Rattle.rules.specs.declared.Refusal.{Refusal}
@@ -38,7 +39,7 @@ use Rattle.controllers.specs.declared.Levelled.{Levelled}
 use Rattle.controllers.proofs.DeviceLaws.{relevel-does}
 use Rattle.turns.specs.Turns.{around}
 use Rattle.turns.specs.declared.Course.{Course}
-use Rattle.engine.specs.Runs.{came, whole, withCourse, RunsAll, SameSteps, Fine, standing}
+use Rattle.engine.specs.Runs.{came, whole, withCourse, RunsAll, SameSteps, Fine, standing, held}
 use Rattle.engine.specs.declared.Ran.{Ran}
 use Rattle.engine.proofs.Sparing.{highest-below, same-levels}
 
@@ -169,22 +170,23 @@ module _ (time pace base : ℕ) (bef : Small) (ignore : Bool) (t : Course) (w s 
     told-refused n h w″ j″ back x =
         rw (h, standing) (rw h at (ends-refused base (length s) d w j used good fits act (r .verdict) e w′ j′ (r .at) steps n h w″ j″ back s′ _ (ran .cleared-staging)))
 
-    module _ (l : Levelled) (lines : l .controllers ≡ controllersIn (r .course .flow .int) (bef .controllers)) (level : l .level ≡ highestIn ignore (r .course .flow .int) (bef .controllers))
+    module _ (l : Levelled) (lines : map viewController (l .controllers) ≡ controllersIn (r .course .flow .int) (map viewController (bef .controllers)))
+        (level : l .level ≡ highestIn ignore (r .course .flow .int) (map viewController (bef .controllers)))
         (after : Small) (put : after ≡ withCourse bef (r .course) (l .controllers) (l .level))
       where
         pub can-end : (used ≤ r .at) × (r .at ≤ length j′) × SameLevels (bef .controllers) (after .controllers)
-        can-end = (rolls-first .0, ran .short, rw put (same-levels (r .course .flow .int) (bef .controllers) (fine .0 .three) lines))
+        can-end = (rolls-first .0, ran .short, rw put (same-levels (r .course .flow .int) (bef .controllers) (l .controllers) (fine .0 .three) lines))
 
         abbrev e₂ : Device
         e₂ = whole after ignore tb′ b′ m′ p′ taken
 
         relevelled : Does relevel e e₂
         relevelled =
-            rw put (relevel-does e (way base (length s) d w j used good fits act (r .verdict) e w′ j′ (r .at) steps .good .sound-dev) lines level (highest-below ignore (r .course .flow .int) (bef .controllers) level))
+            rw put (relevel-does e (way base (length s) d w j used good fits act (r .verdict) e w′ j′ (r .at) steps .good .sound-dev) lines level (highest-below ignore (r .course .flow .int) (map viewController (bef .controllers)) level))
 
         module _ (n : Noted) (j₂ : List ℕ) (closing : (taken : List ℕ) → Closes n (fieldsIn bef b m p taken) (fieldsIn after b′ m′ p′ taken) used (r .at) j′ j₂) where
           closed-whole : Closes n (fieldsOf d) (fieldsOf e₂) used (r .at) j′ j₂
-          closed-whole = rw (fields-in d, fields-in e₂) (closing taken)
+          closed-whole = rw (fields-in (held bef ignore tb b m p taken), fields-in (held after ignore tb′ b′ m′ p′ taken)) (closing taken)
 
           pub rolls-last : (used ≤ r .at) × (used ≤ length j₂)
           rolls-last = can-roll base (length s) d w j used good fits act (r .verdict) e w′ j′ (r .at) steps j₂ (closing taken .front) (closing taken .long)

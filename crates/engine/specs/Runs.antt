@@ -8,8 +8,10 @@ use Rattle.rules.specs.Act.{Act}
 use Rattle.rules.specs.Calls.{Asked, run, service, refusalNumber, verdictNumber, levelled, worldOf, told, toldAfter, after}
 use Rattle.rules.specs.Carry.{World, Out, ok, no, go, perform}
 use Rattle.rules.specs.Run.{runAll, serviceAll}
-use Rattle.rules.specs.declared.Controller.{Controller}
-use Rattle.rules.specs.declared.Device.{Device}
+use Rattle.rules.specs.State.{Device}
+use Rattle.rules.specs.View.{view}
+use Rattle.rules.specs.declared.Controller.{Controller as HeldController}
+use Rattle.rules.specs.declared.Device.{Device as HeldDevice}
 use Rattle.rules.specs.declared.Heard.the-variants as Heard
 use Rattle.rules.specs.declared.Verdict.{Verdict}
 use Rattle.rules.specs.declared.Verdict.the-variants as Verdict
@@ -41,8 +43,8 @@ came (Verdict.Refused r) u = no (refusalNumber r) u
 -- ---- a device in parts
 
 -- table, busy, majors, pending, taken
-abbrev pub whole : Small → Bool → List ℕ → List ℕ → List ℕ → List ℕ → List ℕ → Device
-whole s ignore table busy majors pending taken = record {
+abbrev pub held : Small → Bool → List ℕ → List ℕ → List ℕ → List ℕ → List ℕ → HeldDevice
+held s ignore table busy majors pending taken = record {
   erq = s .erq;
   eei = s .eei;
   int = s .int;
@@ -62,6 +64,10 @@ whole s ignore table busy majors pending taken = record {
   «ignore_masks» = ignore;
 }
 
+-- what it stands for
+abbrev pub whole : Small → Bool → List ℕ → List ℕ → List ℕ → List ℕ → List ℕ → Device
+whole s ignore table busy majors pending taken = view (held s ignore table busy majors pending taken)
+
 -- what turns change besides arrays, where the journal ends at `used`; and that put in, with controllers and level
 abbrev pub courseFrom : Small → ℕ → Course
 courseFrom s used = record {
@@ -70,7 +76,7 @@ courseFrom s used = record {
   deadline = s .deadline;
 }
 
-abbrev pub withCourse : Small → Course → List Controller → ℕ → Small
+abbrev pub withCourse : Small → Course → List HeldController → ℕ → Small
 withCourse s t controllers level = record {
   erq = t .flow .erq;
   eei = s .eei;

@@ -16,8 +16,9 @@ ghost use mathlib.Core.Bool.{true};
 ghost use mathlib.Core.Path.{_≡_};
 ghost use Prim.Native.Nat.{_+_, _^_, _≤_, min};
 ghost use lib.ListN.{length};
+ghost use Rattle.rules.specs.View.{view};
 ghost use Rattle.rules.specs.Calls.{verdictNumber, wrong, run as runCall, service as serviceCall, toldActed, after};
-ghost use Rattle.engine.specs.Runs.{courseOf, verdictOf, whole, courseFrom, withCourse, RunsAll, Offers, Reaches, Carries, Sounds, Runs};
+ghost use Rattle.engine.specs.Runs.{courseOf, verdictOf, held, courseFrom, withCourse, RunsAll, Offers, Reaches, Carries, Sounds, Runs};
 
 fn least(a: usize, b: usize) -> usize
     ensures { λ r. ⌜ r ≡ min a b ⌝ }
@@ -110,7 +111,7 @@ fn put_together(
     majors: [u64; 64],
     pending: [u32; 64],
 ) -> Device
-    ensures { λ r. ⌜ r ≡ whole s (d .«ignore_masks») table busy majors pending (d .taken) ⌝ }
+    ensures { λ r. ⌜ r ≡ held s (d .«ignore_masks») table busy majors pending (d .taken) ⌝ }
 {
     let taken = d.taken;
     let controllers = s.controllers;
@@ -395,7 +396,7 @@ pub fn run(
     journal: &mut [u8],
     used: usize,
 ) -> Acted
-    ensures { λ r. ⌜ toldActed r (now (window .exit)) (now (staging .exit)) (now (journal .exit)) ≡ after (runCall time pace) base d (now (window .entry)) (now (staging .entry)) (now (journal .entry)) used ⌝ }
+    ensures { λ r. ⌜ toldActed r (now (window .exit)) (now (staging .exit)) (now (journal .exit)) ≡ after (runCall time pace) base (view d) (now (window .entry)) (now (staging .entry)) (now (journal .entry)) used ⌝ }
 {
     let mut table = d.table;
     let mut busy = d.busy;
@@ -437,7 +438,7 @@ pub fn service(
     journal: &mut [u8],
     used: usize,
 ) -> Acted
-    ensures { λ r. ⌜ toldActed r (now (window .exit)) (now (staging .exit)) (now (journal .exit)) ≡ after (serviceCall time pace) base d (now (window .entry)) (now (staging .entry)) (now (journal .entry)) used ⌝ }
+    ensures { λ r. ⌜ toldActed r (now (window .exit)) (now (staging .exit)) (now (journal .exit)) ≡ after (serviceCall time pace) base (view d) (now (window .entry)) (now (staging .entry)) (now (journal .entry)) used ⌝ }
 {
     let mut table = d.table;
     let mut busy = d.busy;

@@ -11,7 +11,8 @@ use lib.ListN.{length}
 use Rattle.rules.specs.Calls.{Told, ToldRead, fresh, run, after, toldActed, toldHeard, verdictNumber, heardLevel, heardVector}
 use Rattle.rules.specs.declared.Acknowledged.{Acknowledged}
 use Rattle.rules.specs.declared.Acted.{Acted}
-use Rattle.rules.specs.declared.Device.{Device}
+use Rattle.rules.specs.State.{Device}
+use Rattle.rules.specs.View.{view}
 use Rattle.image.specs.Image.{imageOf, deviceIn, isImage}
 use Rattle.entries.specs.Entry.{packed, Left, left, leftBy, entered, readBy, enteredRead, freshened, leftOn, oneRun, repeated, enteredRuns}
 
@@ -27,13 +28,13 @@ no-entry image window staging journal used t h p = rw h (ap (λ n. left n image 
 
 module _ (image window staging journal : List ℕ) (used : ℕ) (f : Device → Told) {d : Device} {image′ window′ staging′ journal′ : List ℕ} {r : ℕ}
     (h : isImage image ≡ true) (p : d ≡ deviceIn image) where
-  pub act-entry : (a : Acted) → toldActed a window′ staging′ journal′ ≡ f d → (r ≡ packed (verdictNumber (a .verdict)) 0 0 (a .used)) × (image′ ≡ imageOf (a .device))
+  pub act-entry : (a : Acted) → toldActed a window′ staging′ journal′ ≡ f d → (r ≡ packed (verdictNumber (a .verdict)) 0 0 (a .used)) × (image′ ≡ imageOf (view (a .device)))
       → left r image′ window′ staging′ journal′ ≡ entered image window staging journal used (f (deviceIn image))
   unfolding entered leftBy
   act-entry a q s = rw (h, ← p, ← q, s .0, s .1) refl
 
   pub heard-entry : (a : Acknowledged) → toldHeard a window′ staging′ journal′ ≡ f d → {v l w : ℕ} → v ≡ verdictNumber (a .verdict) → l ≡ heardLevel (a .heard) → w ≡ heardVector (a .heard)
-      → r ≡ packed v l w (a .used) → image′ ≡ imageOf (a .device)
+      → r ≡ packed v l w (a .used) → image′ ≡ imageOf (view (a .device))
       → left r image′ window′ staging′ journal′ ≡ entered image window staging journal used (f (deviceIn image))
   unfolding entered leftBy
   heard-entry a q i j k s t = rw (h, ← p, ← q, s, i, j, k, t) refl

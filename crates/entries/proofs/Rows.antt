@@ -14,7 +14,7 @@ use lib.ListN.{length, take}
 use Rattle.rules.specs.Bytes.{Bytes}
 use Rattle.rules.specs.Calls.{badWindow, heardLevel, heardVector, Told, told, heardTold, after, afterBack, ToldRead, toldRead, afterRead}
 use Rattle.rules.specs.Carry.{After, made, unmade}
-use Rattle.rules.specs.declared.Device.{Device}
+use Rattle.rules.specs.State.{Device}
 use Rattle.rules.specs.declared.Heard.{Heard}
 use Rattle.rules.specs.declared.Heard.the-variants as Heard
 use Rattle.rules.proofs.Along.{Along, make-along, back-along}

@@ -5,7 +5,7 @@ use mathlib.Core.List.{List}
 use mathlib.Core.Path.{_≡_, refl, sym, ap, _∙_}
 use Prim.Native.Nat.{ℕ}
 use Rattle.rules.specs.Calls.{Told}
-use Rattle.rules.specs.declared.Device.{Device}
+use Rattle.rules.specs.State.{Device}
 use Rattle.rules.proofs.Each.{Proper}
 use Rattle.image.specs.Image.{imageOf, deviceIn, isImage}
 use Rattle.image.proofs.Round.{proper-round}

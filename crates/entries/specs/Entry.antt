@@ -6,7 +6,7 @@ use Prim.Native.Nat.{ℕ, zero, suc, _+_, _*_, _%_, _^_}
 use lib.Dec.{eqb, ltb}
 use lib.ListN.{length}
 use Rattle.rules.specs.Calls.{Asked, run, fresh, heardLevel, heardVector, Told, told, after, ToldRead, toldRead}
-use Rattle.rules.specs.declared.Device.{Device}
+use Rattle.rules.specs.State.{Device}
 use Rattle.image.specs.Image.{imageOf, deviceIn, isImage}
 
 -- an answer: bits 63..56 status, 47..40 level, 39..32 vector, 31..0 the low bits of a number

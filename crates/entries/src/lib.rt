@@ -9,6 +9,7 @@ ghost use mathlib.Core.Path.{_≡_};
 ghost use Prim.Native.Nat.{_%_, _^_};
 ghost use lib.ListN.{length};
 ghost use Rattle.rules.specs.Calls.{verdictNumber, heardLevel, heardVector, toldReading, after, afterBack, afterRead, write, inputs, pending, run, service, ack};
+ghost use Rattle.rules.specs.View.{view};
 ghost use Rattle.image.specs.Image.{imageOf, deviceIn};
 ghost use Rattle.entries.specs.Entry.{packed, left, entered, Aside, readBy, enteredRead, freshened, enteredRuns};
 
@@ -58,7 +59,7 @@ fn reading_of(r: Reading) -> u64
 // The device that an act or a take-back answers, laid down; and its answer.
 fn put_back(image: &mut [u8], r: Acted) -> u64
     requires { ⌜ length (now image) ≡ 8720 ⌝ }
-    ensures { λ n. ⌜ (n ≡ packed (verdictNumber (r .verdict)) 0 0 (r .used)) × (now (image .exit) ≡ imageOf (r .device)) ⌝ }
+    ensures { λ n. ⌜ (n ≡ packed (verdictNumber (r .verdict)) 0 0 (r .used)) × (now (image .exit) ≡ imageOf (view (r .device))) ⌝ }
 {
     image::put_device(image, r.device);
     let v = r.verdict;

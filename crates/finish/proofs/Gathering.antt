@@ -11,7 +11,7 @@ use Rattle.rules.specs.Bytes.{part}
 use Rattle.rules.specs.Carry.{Out, bytesOf, fetched}
 use Rattle.rules.specs.Minor.{gather}
 use Rattle.rules.specs.Words.{wrap32}
-use Rattle.rules.specs.declared.Device.{Device}
+use Rattle.rules.specs.State.{Device}
 use Rattle.rules.specs.declared.Refusal.the-variants as Refusal
 use Rattle.rules.proofs.Steps.{fetch-inside, fetch-outside}
 use Rattle.flow.specs.Worlds.{world, told, on}

@@ -4,7 +4,7 @@ use Prim.Native.Nat.{ℕ, _%_, _^_, _<_}
 use Rattle.rules.specs.Act.{Act, Field, done, ask, put, change, _>>=_, _>>_}
 use Rattle.rules.specs.Carry.{go, withDevice}
 use Rattle.rules.specs.Fields.{bitsOf, holds, withField}
-use Rattle.rules.specs.declared.Device.{Device}
+use Rattle.rules.specs.State.{Device}
 use Rattle.rules.proofs.Steps.{bind-ok, put-does, change-does}
 use Rattle.flow.specs.Does.{beside, Answers, Does}
 

@@ -15,7 +15,7 @@ use Rattle.rules.specs.Carry.{Out, ok, no, bytesOf, withBytesOf, withDevice, le
 use Rattle.rules.specs.Carry.{fetched as Carry·fetched}
 use Rattle.rules.specs.Fields.{bitsOf}
 use Rattle.rules.specs.Minor.{descriptor, tcdOf}
-use Rattle.rules.specs.declared.Device.{Device}
+use Rattle.rules.specs.State.{Device}
 use Rattle.rules.specs.declared.Refusal.{Refusal}
 use Rattle.rules.specs.declared.Refusal.the-variants as Refusal
 use Rattle.rules.specs.declared.Tcd.{Tcd}

@@ -6,7 +6,7 @@ use Prim.Native.Nat.{ℕ}
 use Rattle.rules.specs.Act.{Act, _>>_}
 use Rattle.rules.specs.Calls.{worldOf, refusalNumber}
 use Rattle.rules.specs.Carry.{no, go}
-use Rattle.rules.specs.declared.Device.{Device}
+use Rattle.rules.specs.State.{Device}
 use Rattle.rules.specs.declared.Refusal.{Refusal}
 use Rattle.flow.specs.Worlds.{Walks}
 use Rattle.flow.specs.declared.Walk.{Walk}

@@ -6,7 +6,7 @@ use Prim.Native.Nat.{ℕ}
 use Rattle.rules.specs.Act.{Act, _>>=_}
 use Rattle.rules.specs.Calls.{worldOf, refusalNumber}
 use Rattle.rules.specs.Carry.{World, Out, ok, no, go}
-use Rattle.rules.specs.declared.Device.{Device}
+use Rattle.rules.specs.State.{Device}
 use Rattle.flow.specs.declared.Flow.{Flow}
 use Rattle.flow.specs.declared.Step.{Step}
 use Rattle.flow.specs.declared.Step.the-variants.{Going, Refused}
@@ -34,7 +34,7 @@ over d c table majors = record {
   controllers = d .controllers;
   cr = c .cr;
   level = d .level;
-  «ignore_masks» = d .«ignore_masks»;
+  ignore = d .ignore;
 }
 
 -- window, journal, table, majors

@@ -13,8 +13,7 @@ use lib.Seq.{getD-append-add, getD-at}
 use Rattle.rules.specs.Act.{Field, CR, ERQ, EEI, INT, ERR, KICK, DEFERRED, DEADLINE, LEVEL, STANDING, MASKS, FORCED, LINES, CONFIG, BUSY, MAJORS, PENDING, SOURCE, TAKEN}
 use Rattle.rules.specs.Bytes.{Bytes, bytes, number, part}
 use Rattle.rules.specs.Fields.{fieldsOf, headOf, partsOf, numberOf, bitsOf, holds, controller}
-use Rattle.rules.specs.declared.Controller.{Controller}
-use Rattle.rules.specs.declared.Device.{Device}
+use Rattle.rules.specs.State.{Controller, Device}
 use Rattle.rules.proofs.BytesLaws.{length-bytes, value-of-bytes, length-part, bytes-part}
 use Rattle.rules.proofs.FieldLaws.{sizes, bitParts, Sound, sized, spot, Real, holds-fits, holds-number, in-three}
 use Rattle.rules.proofs.Powers.{low-low}
@@ -50,8 +49,8 @@ part-laid (v ∷ vs) (suc n) h =
 -- ---- a field read back
 
 module _ (d : Device) (s : Sound d) (t : length (d .table) ≡ 2048) where
-  front : length (d .table ++ flagged (d .«ignore_masks»)) ≡ 2064
-  front = length-append (d .table) (flagged (d .«ignore_masks»)) ∙ rw (t, length-flagged (d .«ignore_masks»)) refl
+  front : length (d .table ++ flagged (d .ignore)) ≡ 2064
+  front = length-append (d .table) (flagged (d .ignore)) ∙ rw (t, length-flagged (d .ignore)) refl
 
   fields-long : length (fieldsOf d) ≡ 768
   unfolding total fieldsOf
@@ -60,7 +59,7 @@ module _ (d : Device) (s : Sound d) (t : length (d .table) ≡ 2048) where
   number-at : (n : ℕ) → n < 768 → number (part (imageOf d) (2064 + 8 * n) 8) ≡ getD (fieldsOf d) n 0 % 2 ^ 64
   unfolding imageOf
   number-at n h =
-      let p = d .table ++ flagged (d .«ignore_masks») in
+      let p = d .table ++ flagged (d .ignore) in
       let vs = fieldsOf d ++ replicate 64 0 in
       let long : length vs ≡ length (fieldsOf d) + 64 = length-append (fieldsOf d) (replicate 64 0) in
       let here : part (p ++ laid vs) (2064 + 8 * n) 8 ≡ bytes 8 (getD vs n 0) = ap (λ m. part (p ++ laid vs) (m + 8 * n) 8) (sym front) ∙ part-behind p (laid vs) (8 * n) 8 ∙ part-laid vs n (omega (arith, long, fields-long)) in
@@ -93,7 +92,7 @@ made-of : (k : Controller) {masks forced lines config : ℕ} {levels : List ℕ}
     → _≡_ {A = Controller} k (record { masks = masks; forced = forced; lines = lines; levels = levels; config = config })
 made-of k a b c d e = rw (← a, ← b, ← c, ← d, ← e) refl
 
-with-own : (d : Device) {l : List Controller} {b : Bool} → d .controllers ≡ l → d .«ignore_masks» ≡ b
+with-own : (d : Device) {l : List Controller} {b : Bool} → d .controllers ≡ l → d .ignore ≡ b
     → _≡_ {A = Device} d (record {
       erq = d .erq;
       eei = d .eei;
@@ -111,7 +110,7 @@ with-own : (d : Device) {l : List Controller} {b : Bool} → d .controllers ≡ 
       controllers = l;
       cr = d .cr;
       level = d .level;
-      «ignore_masks» = b;
+      ignore = b;
     })
 with-own d p q = rw (← p, ← q) refl
 
@@ -130,19 +129,19 @@ module _ (d : Device) (s : Sound d) (t : length (d .table) ≡ 2048) where
   table-first : d .table ≡ part (imageOf d) 0 2048
   unfolding imageOf
   table-first =
-      let flag = flagged (d .«ignore_masks») in
+      let flag = flagged (d .ignore) in
       let rest = laid (fieldsOf d ++ replicate 64 0) in
       let e : part (d .table ++ (flag ++ rest)) 0 (length (d .table)) ≡ d .table = part-first (d .table) (flag ++ rest) in
       sym (ap (λ l. part l 0 2048) (append-assoc (d .table) flag rest) ∙ (rw t at e))
 
-  setting : d .«ignore_masks» ≡ eqb (getD (imageOf d) 2048 0) 1
+  setting : d .ignore ≡ eqb (getD (imageOf d) 2048 0) 1
   unfolding imageOf flagged
   setting =
-      let flag = flagged (d .«ignore_masks») in
+      let flag = flagged (d .ignore) in
       let rest = laid (fieldsOf d ++ replicate 64 0) in
-      let e : getD ((d .table ++ flag) ++ rest) 2048 0 ≡ cond (d .«ignore_masks») 1 0 =
-      ap (λ (l : List ℕ). getD l 2048 0) (append-assoc (d .table) flag rest) ∙ getD-at (d .table) (cond (d .«ignore_masks») 1 0) (replicate 15 0 ++ rest) 0 2048 t in
-      rw e (either (d .«ignore_masks»))
+      let e : getD ((d .table ++ flag) ++ rest) 2048 0 ≡ cond (d .ignore) 1 0 =
+      ap (λ (l : List ℕ). getD l 2048 0) (append-assoc (d .table) flag rest) ∙ getD-at (d .table) (cond (d .ignore) 1 0) (replicate 15 0 ++ rest) 0 2048 t in
+      rw e (either (d .ignore))
     where
       either : (b : Bool) → b ≡ eqb (cond b 1 0) 1
       either true = refl
@@ -191,7 +190,7 @@ module _ (d : Device) (s : Sound d) (t : length (d .table) ≡ 2048) where
 pub image-only : (d e : Device) → Sound d → Sound e → length (d .table) ≡ 2048 → length (e .table) ≡ 2048 → imageOf d ≡ imageOf e → d ≡ e
 image-only d e s t a b p = sym (image-round d s a) ∙ ap deviceIn p ∙ image-round e t b
 
--- so of every proper device, and every value of the declared type is one: its image is an image, and the device in it is that device
+-- so of every proper device, and every value of the declared type stands for one: its image is an image, and the device in it is that device
 pub proper-round : (d : Device) → Proper d → (isImage (imageOf d) ≡ true) × (deviceIn (imageOf d) ≡ d)
 proper-round d p = (image-one d (p .sound) (p .size), image-round d (p .sound) (p .size))
 

@@ -10,8 +10,7 @@ use lib.ListN.{length, getD, replicate, length-append}
 use Rattle.rules.specs.Act.{CR, LEVEL}
 use Rattle.rules.specs.Bytes.{bytes, part, splice}
 use Rattle.rules.specs.Fields.{joined, headOf, partsOf, fieldsOf, controller, masksOf, bitsOf}
-use Rattle.rules.specs.declared.Controller.{Controller}
-use Rattle.rules.specs.declared.Device.{Device}
+use Rattle.rules.specs.State.{Controller, Device}
 use Rattle.rules.proofs.BytesLaws.{length-part}
 use Rattle.rules.proofs.FieldLaws.{sizes, Sound, sized, holds-fits}
 use Rattle.rules.proofs.PartLaws.{Sized}
@@ -117,10 +116,10 @@ length-flagged b = refl
 pub length-image : (d : Device) → length (d .table) ≡ 2048 → Sized sizes (partsOf d) → length (imageOf d) ≡ 8720
 unfolding total imageOf fieldsOf
 length-image d t s =
-    let f : ℕ = length (d .table ++ flagged (d .«ignore_masks»)) in
-    let front : f ≡ 2064 = length-append (d .table) (flagged (d .«ignore_masks»)) ∙ rw (t, length-flagged (d .«ignore_masks»)) refl in
+    let f : ℕ = length (d .table ++ flagged (d .ignore)) in
+    let front : f ≡ 2064 = length-append (d .table) (flagged (d .ignore)) ∙ rw (t, length-flagged (d .ignore)) refl in
     let n : length (joined (partsOf d) ++ replicate 64 0) ≡ 832 = length-append (joined (partsOf d)) (replicate 64 0) ∙ rw (length-joined sizes (partsOf d) s) refl in
-    length-append (d .table ++ flagged (d .«ignore_masks»)) (laid (joined (partsOf d) ++ replicate 64 0)) ∙ rw (front, length-laid (joined (partsOf d) ++ replicate 64 0), n) refl
+    length-append (d .table ++ flagged (d .ignore)) (laid (joined (partsOf d) ++ replicate 64 0)) ∙ rw (front, length-laid (joined (partsOf d) ++ replicate 64 0), n) refl
 
 length-head : (d : Device) → length (headOf d) ≡ 64
 unfolding headOf
@@ -148,15 +147,15 @@ module _ (d : Device) (s : Sound d) (t : length (d .table) ≡ 2048) (x y z a b 
       (row-more z a b 2064 2576 (h0 ∷ []) h1 (64 ∷ []) (length-head d, tt) refl (row-first z a 2064 h0 f) g) h) i
       ∙ ap (λ l. splice z 2064 (laid l)) (rows d)
 
-  pub image-laid : length x ≡ 8720 → y ≡ splice x 0 (d .table) → z ≡ splice y 2048 (flagged (d .«ignore_masks»)) → a ≡ splice z 2064 (laid (headOf d))
+  pub image-laid : length x ≡ 8720 → y ≡ splice x 0 (d .table) → z ≡ splice y 2048 (flagged (d .ignore)) → a ≡ splice z 2064 (laid (headOf d))
       → b ≡ splice a 2576 (laid (joined (channelsOf d))) → c ≡ splice b 4112 (laid (joined (levelsOf d))) → e ≡ splice c 6672 (laid (joined (takenOf d)))
       → e ≡ imageOf d
   unfolding imageOf
   image-laid l p q f g h i =
-      let flag = flagged (d .«ignore_masks») in
+      let flag = flagged (d .ignore) in
       let ns = laid (fieldsOf d ++ replicate 64 0) in
       let front : z ≡ splice x 0 (d .table ++ flag) = q ∙ ap (λ m. splice m 2048 flag) p ∙ ap (λ n. splice (splice x 0 (d .table)) n flag) (sym (zero-add (length (d .table)) ∙ t)) ∙ splice-next x 0 (d .table) flag in
-      let long : length (d .table ++ flag) ≡ 2064 = length-append (d .table) flag ∙ rw (t, length-flagged (d .«ignore_masks»)) refl in
+      let long : length (d .table ++ flag) ≡ 2064 = length-append (d .table) flag ∙ rw (t, length-flagged (d .ignore)) refl in
       fields-laid f g h i
       ∙ ap (λ m. splice m 2064 ns) front
       ∙ ap (λ n. splice (splice x 0 (d .table ++ flag)) n ns) (sym (zero-add (length (d .table ++ flag)) ∙ long))
@@ -214,7 +213,7 @@ pub device-got : (b : List ℕ) {erq eei int err kick deferred deadline standing
       controllers = k ∷ l ∷ m ∷ [];
       cr = cr;
       level = level;
-      «ignore_masks» = eqb (getD b 2048 0) 1;
+      ignore = eqb (getD b 2048 0) 1;
     }) (deviceIn b)
 unfolding deviceIn
 device-got b a c d e f g h i j k l m n o p q r s = rw (a, c, d, e, f, g, h, i, j, k, l, m, n, o, p, q, r, s) refl

@@ -6,8 +6,7 @@ use lib.Dec.{eqb}
 use lib.ListN.{getD, replicate}
 use Rattle.rules.specs.Bytes.{bytes, number, part}
 use Rattle.rules.specs.Fields.{fieldsOf}
-use Rattle.rules.specs.declared.Controller.{Controller}
-use Rattle.rules.specs.declared.Device.{Device}
+use Rattle.rules.specs.State.{Controller, Device}
 
 -- ---- a device laid down
 
@@ -22,7 +21,7 @@ flagged b = cond b 1 0 ∷ replicate 15 0
 
 -- the table; the setting; the fields by their numbers, and 64 numbers that name none yet
 unfoldable pub imageOf : Device → List ℕ
-imageOf d = (d .table ++ flagged (d .«ignore_masks»)) ++ laid (fieldsOf d ++ replicate 64 0)
+imageOf d = (d .table ++ flagged (d .ignore)) ++ laid (fieldsOf d ++ replicate 64 0)
 
 -- ---- the device that stands in an image
 
@@ -61,7 +60,7 @@ deviceIn b = record {
   controllers = controllerIn b 0 ∷ controllerIn b 1 ∷ controllerIn b 2 ∷ [];
   cr = numberIn 32 b 0;
   level = numberIn 8 b 8;
-  «ignore_masks» = eqb (getD b 2048 0) 1;
+  ignore = eqb (getD b 2048 0) 1;
 }
 
 -- ---- images and other bytes

@@ -3,7 +3,7 @@ use mathlib.Core.List.{List, [], _∷_}
 use Prim.Native.Nat.{ℕ}
 use lib.ListN.{replicate}
 use Rattle.rules.specs.Fields.{controller}
-use Rattle.rules.specs.declared.Device.{Device}
+use Rattle.rules.specs.State.{Device}
 
 abbrev pub channelsOf : Device → List (List ℕ)
 channelsOf d = d .busy ∷ d .majors ∷ d .pending ∷ []

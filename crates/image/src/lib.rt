@@ -7,6 +7,7 @@ ghost use Prim.Native.Nat.{_+_, _*_, _≤_, _<_};
 ghost use lib.ListN.{length, getD};
 ghost use Rattle.rules.specs.Bytes.{splice, part};
 ghost use Rattle.rules.specs.Fields.{joined, headOf};
+ghost use Rattle.rules.specs.View.{viewController, view};
 ghost use Rattle.image.specs.Image.{laid, flagged, imageOf, numberIn, numbersIn, controllerIn, deviceIn, alike, isImage};
 ghost use Rattle.image.specs.Parts.{channelsOf, levelsOf, takenOf};
 
@@ -181,7 +182,7 @@ fn alike(a: &[u8], b: &[u8]) -> bool
 // Fields 0 to 63: the scalars, and each controller's own four.
 fn put_head(image: &mut [u8], d: Device)
     requires { ⌜ 2576 ≤ length (now image) ⌝ }
-    ensures { λ _. ⌜ now (image .exit) ≡ splice (now (image .entry)) 2064 (laid (headOf d)) ⌝ }
+    ensures { λ _. ⌜ now (image .exit) ≡ splice (now (image .entry)) 2064 (laid (headOf (view d))) ⌝ }
 {
     let a = device::controller_at(d, 0);
     let b = device::controller_at(d, 1);
@@ -215,7 +216,7 @@ fn put_head(image: &mut [u8], d: Device)
 // Fields 256 to 575: the level bytes of the three controllers, and 128 numbers that name no field.
 fn put_levels(image: &mut [u8], d: Device)
     requires { ⌜ 6672 ≤ length (now image) ⌝ }
-    ensures { λ _. ⌜ now (image .exit) ≡ splice (now (image .entry)) 4112 (laid (joined (levelsOf d))) ⌝ }
+    ensures { λ _. ⌜ now (image .exit) ≡ splice (now (image .entry)) 4112 (laid (joined (levelsOf (view d)))) ⌝ }
 {
     let a = device::controller_at(d, 0).levels;
     let b = device::controller_at(d, 1).levels;
@@ -230,7 +231,7 @@ fn put_levels(image: &mut [u8], d: Device)
 // Fields 64 to 255: busy times, majors, pending counts.
 fn put_channels(image: &mut [u8], d: Device)
     requires { ⌜ 4112 ≤ length (now image) ⌝ }
-    ensures { λ _. ⌜ now (image .exit) ≡ splice (now (image .entry)) 2576 (laid (joined (channelsOf d))) ⌝ }
+    ensures { λ _. ⌜ now (image .exit) ≡ splice (now (image .entry)) 2576 (laid (joined (channelsOf (view d)))) ⌝ }
 {
     let busy = d.busy;
     let majors = d.majors;
@@ -243,7 +244,7 @@ fn put_channels(image: &mut [u8], d: Device)
 // Fields 576 to 767: how often each vector was taken; and 64 numbers that name no field.
 fn put_taken(image: &mut [u8], d: Device)
     requires { ⌜ 8720 ≤ length (now image) ⌝ }
-    ensures { λ _. ⌜ now (image .exit) ≡ splice (now (image .entry)) 6672 (laid (joined (takenOf d))) ⌝ }
+    ensures { λ _. ⌜ now (image .exit) ≡ splice (now (image .entry)) 6672 (laid (joined (takenOf (view d)))) ⌝ }
 {
     let taken = d.taken;
     let none = [0u64; 64];
@@ -254,7 +255,7 @@ fn put_taken(image: &mut [u8], d: Device)
 // The whole image of a device.
 pub fn put_device(image: &mut [u8], d: Device)
     requires { ⌜ length (now image) ≡ 8720 ⌝ }
-    ensures { λ _. ⌜ now (image .exit) ≡ imageOf d ⌝ }
+    ensures { λ _. ⌜ now (image .exit) ≡ imageOf (view d) ⌝ }
 {
     let table = d.table;
     put_table(image, &table);
@@ -267,7 +268,7 @@ pub fn put_device(image: &mut [u8], d: Device)
 
 fn get_controller(image: &[u8], c: usize) -> Controller
     requires { ⌜ (length (now image) ≡ 8720) × (c < 3) ⌝ }
-    ensures { λ r. ⌜ r ≡ controllerIn (now (image .entry)) c ⌝ }
+    ensures { λ r. ⌜ viewController r ≡ controllerIn (now (image .entry)) c ⌝ }
 {
     let mut levels = [0u8; 64];
     get_bytes(image, 256 + 64 * c, &mut levels);
@@ -283,7 +284,7 @@ fn get_controller(image: &[u8], c: usize) -> Controller
 // The device that stands in an image.
 pub fn get_device(image: &[u8]) -> Device
     requires { ⌜ length (now image) ≡ 8720 ⌝ }
-    ensures { λ r. ⌜ r ≡ deviceIn (now (image .entry)) ⌝ }
+    ensures { λ r. ⌜ view r ≡ deviceIn (now (image .entry)) ⌝ }
 {
     let mut table = [0u8; 2048];
     get_table(image, &mut table);

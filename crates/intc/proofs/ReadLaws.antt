@@ -6,7 +6,7 @@ use Prim.Native.Nat.{ℕ, _-_, _≤_}
 use borrow.Author.Tests.{leb-true, ne-eqb}
 use lib.Dec.{leb}
 use lib.ListN.{getD}
-use Rattle.rules.specs.declared.Controller.{Controller}
+use Rattle.rules.specs.State.{Controller}
 use Rattle.rules.specs.Registers.{within, lookUp, controllerCells, controllerRead}
 use Rattle.rules.proofs.BoolLaws.{and-left, and-right}
 

@@ -1,6 +1,6 @@
 -- Controller registers, written: each arm's act on one controller, and which arm it is. Assumes nothing.
 use mathlib.Core.Bool.{Bool, true, false, false≢true}
-use mathlib.Core.List.{List, [], _∷_}
+use mathlib.Core.List.{List, [], _∷_, map}
 use mathlib.Core.Option.{Option, none, some}
 use mathlib.Core.Path.{_≡_, refl, sym, ap, _∙_, subst, subst⁻¹}
 use Prim.Native.Nat.{ℕ, suc, _+_, _-_, _/_, _%_, _^_, _≤_, _<_}
@@ -8,17 +8,20 @@ use native.Mathlib.Nat.{pow-suc, div-one, div-div-eq-div-mul}
 use native.Mathlib.Omega.{arith}
 use borrow.Author.Tests.{lt-ltb, le-ltb, ltb-true, ltb-false, eqb-true, eqb-false, ne-eqb}
 use lib.Dec.{eqb, ltb}
-use lib.ListN.{length, set, length-set}
+use lib.ListN.{length, getD, set, length-set}
 use lib.Seq.{set-set, set-getD, set-out, getD-set-same}
-use Rattle.rules.specs.declared.Controller.{Controller}
-use Rattle.rules.specs.declared.Device.{Device}
+use Rattle.rules.specs.State.{Controller, Device}
 use Rattle.rules.specs.Act.{Act, nothing, put, change, when, _>>=_, MASKS, FORCED, CONFIG, SOURCE}
 use Rattle.rules.specs.Bytes.{Bytes, bytes, splice}
 use Rattle.rules.specs.Calls.{isNone, orNothing}
 use Rattle.rules.specs.Fields.{controller, noController, bitsOf}
 use Rattle.rules.specs.Registers.{within, withBytesIn, levelsWrite, pick, controllerArms, controllerWrite}
+use Rattle.rules.specs.View.{viewController, view}
+use Rattle.rules.specs.declared.Controller.{Controller as HeldController}
+use Rattle.rules.specs.declared.Device.{Device as HeldDevice}
 use Rattle.rules.specs.With.{withControllers, withMasks, withForced, withConfig, withLevels}
 use Rattle.rules.proofs.BytesLaws.{length-splice, splice-cons}
+use Rattle.rules.proofs.ViewLaws.{map-set, noHeld, controller-viewed}
 use Rattle.flow.specs.Does.{Does}
 use Rattle.flow.proofs.DoesLaws.{answers-done, answers-bind, does-put, does-cut, does-change}
 use Rattle.intc.specs.Writes.{writeTo, commandAt, InController, WrittenIn, Written}
@@ -162,6 +165,14 @@ written-device write c d known e l w = record {
   does = w .does c d l refl;
   keeps = λ t. ap (λ (x : List Controller). withControllers d x) (ap (set (d .controllers) c) (w .keeps t) ∙ set-getD (d .controllers) c noController);
 }
+
+-- the same of a device as code holds it
+pub written-held : (write : ℕ → Option (Act (Unit {0}))) (c : ℕ) (d : HeldDevice) (known : Bool) (e : HeldController) → c < length (view d .controllers)
+    → WrittenIn write (viewController (getD (d .controllers) c noHeld)) known (viewController e)
+    → Written (write c) (view d) known (withControllers (view d) (map viewController (set (d .controllers) c e)))
+written-held write c d known e l w =
+    rw (map-set viewController (d .controllers) c e)
+    (written-device write c (view d) known (viewController e) l (subst (λ (k : Controller). WrittenIn write k known (viewController e)) (sym (controller-viewed (d .controllers) c)) w))
 
 -- ---- arms that are no ranges
 

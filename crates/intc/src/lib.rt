@@ -5,6 +5,7 @@ use rules::Device;
 ghost use mathlib.Core.Path.{_≡_};
 ghost use Prim.Native.Nat.{_+_, _≤_, _<_};
 ghost use lib.ListN.{set};
+ghost use Rattle.rules.specs.View.{viewController, view};
 ghost use Rattle.rules.specs.Bytes.{bytes, splice};
 ghost use Rattle.rules.specs.Registers.{within, bytesIn, withBytesIn, named, controllerRead, controllerWrite};
 ghost use Rattle.rules.specs.With.{withLevels};
@@ -54,7 +55,7 @@ fn wide(x: u8) -> u32
 
 // A byte: a source's level, or one of the command bytes, which read 0.
 fn read_byte(k: Controller, off: u32) -> Cell
-    ensures { λ r. ⌜ reads r ≡ controllerRead k off 1 ⌝ }
+    ensures { λ r. ⌜ reads r ≡ controllerRead (viewController k) off 1 ⌝ }
 {
     if within(0x40, 0x7F, off) {
         let levels = k.levels;
@@ -68,7 +69,7 @@ fn read_byte(k: Controller, off: u32) -> Cell
 
 // A half word: ICONFIG.
 fn read_half(k: Controller, off: u32) -> Cell
-    ensures { λ r. ⌜ reads r ≡ controllerRead k off 2 ⌝ }
+    ensures { λ r. ⌜ reads r ≡ controllerRead (viewController k) off 2 ⌝ }
 {
     match off {
         0x18 => Cell::Value(k.config as u32),
@@ -78,7 +79,7 @@ fn read_half(k: Controller, off: u32) -> Cell
 
 // A word: half of what is pending, of the masks, or of the forced sources.
 fn read_word(k: Controller, off: u32) -> Cell
-    ensures { λ r. ⌜ reads r ≡ controllerRead k off 4 ⌝ }
+    ensures { λ r. ⌜ reads r ≡ controllerRead (viewController k) off 4 ⌝ }
 {
     match off {
         0x00 => Cell::Value(bytes_in(0, 4, k.lines | k.forced)),
@@ -93,7 +94,7 @@ fn read_word(k: Controller, off: u32) -> Cell
 
 // "Registers are exactly the arms of [..] `intc_read`": by size, then by offset.
 pub fn intc_read(k: Controller, off: u32, size: u32) -> Cell
-    ensures { λ r. ⌜ reads r ≡ controllerRead k off size ⌝ }
+    ensures { λ r. ⌜ reads r ≡ controllerRead (viewController k) off size ⌝ }
 {
     match size {
         1 => read_byte(k, off),
@@ -123,7 +124,7 @@ pub fn named(v: u32) -> u64
 
 // Source `s` with another level byte; there is none past 63.
 fn with_level(k: Controller, s: usize, b: u8) -> Controller
-    ensures { λ r. ⌜ r ≡ withLevels k (set (k .levels) s b) ⌝ }
+    ensures { λ r. ⌜ viewController r ≡ withLevels (viewController k) (set (k .levels) s b) ⌝ }
 {
     let mut e = k;
     if s < 64 {
@@ -135,7 +136,7 @@ fn with_level(k: Controller, s: usize, b: u8) -> Controller
 // The level bytes from source `s` on, the last of `size` first.
 fn with_levels(k: Controller, s: usize, size: usize, v: u32) -> Controller
     requires { ⌜ (s < 64) × (size ≤ 4) ⌝ }
-    ensures { λ r. ⌜ r ≡ withLevels k (splice (k .levels) s (bytes size v)) ⌝ }
+    ensures { λ r. ⌜ viewController r ≡ withLevels (viewController k) (splice (k .levels) s (bytes size v)) ⌝ }
 {
     let mut e = k;
     let mut rest = v;
@@ -150,7 +151,7 @@ fn with_levels(k: Controller, s: usize, size: usize, v: u32) -> Controller
 
 // A half word: ICONFIG.
 fn half_written(k: Controller, off: u32, v: u32) -> Kept
-    ensures { λ r. ⌜ WrittenIn (commandAt off 2 v) k (r .known) (r .controller) ⌝ }
+    ensures { λ r. ⌜ WrittenIn (commandAt off 2 v) (viewController k) (r .known) (viewController (r .controller)) ⌝ }
 {
     match off {
         0x18 => {
@@ -170,7 +171,7 @@ fn half_written(k: Controller, off: u32, v: u32) -> Kept
 
 // A byte: SIMR masks sources, CIMR unmasks them, and two do nothing.
 fn byte_written(k: Controller, off: u32, v: u32) -> Kept
-    ensures { λ r. ⌜ WrittenIn (commandAt off 1 v) k (r .known) (r .controller) ⌝ }
+    ensures { λ r. ⌜ WrittenIn (commandAt off 1 v) (viewController k) (r .known) (viewController (r .controller)) ⌝ }
 {
     match off {
         0x1C => {
@@ -202,7 +203,7 @@ fn byte_written(k: Controller, off: u32, v: u32) -> Kept
 
 // Those that are no ranges of offsets, by size.
 fn command_written(k: Controller, off: u32, size: u32, v: u32) -> Kept
-    ensures { λ r. ⌜ WrittenIn (commandAt off size v) k (r .known) (r .controller) ⌝ }
+    ensures { λ r. ⌜ WrittenIn (commandAt off size v) (viewController k) (r .known) (viewController (r .controller)) ⌝ }
 {
     match size {
         1 => byte_written(k, off, v),
@@ -218,7 +219,7 @@ fn command_written(k: Controller, off: u32, size: u32, v: u32) -> Kept
 // and word writes into the 32-bit registers. That they stay in one, the caller has tested: else it is refusal 4.
 pub fn controller_written(k: Controller, off: u32, size: u32, v: u32) -> Kept
     requires { ⌜ (0 < size) × (size ≤ 4) × InWord off size ⌝ }
-    ensures { λ r. ⌜ WrittenIn (writeTo off size v) k (r .known) (r .controller) ⌝ }
+    ensures { λ r. ⌜ WrittenIn (writeTo off size v) (viewController k) (r .known) (viewController (r .controller)) ⌝ }
 {
     let mut e = k;
     let n = size as usize;
@@ -260,7 +261,7 @@ pub struct Wrote {
 // A write to controller `c`. Where there is no such register, the device is unchanged.
 pub fn intc_write(d: Device, c: usize, off: u32, size: u32, v: u32) -> Wrote
     requires { ⌜ (c < 3) × (0 < size) × (size ≤ 4) × InWord off size ⌝ }
-    ensures { λ r. ⌜ Written (controllerWrite c off size v) d (r .known) (r .device) ⌝ }
+    ensures { λ r. ⌜ Written (controllerWrite c off size v) (view d) (r .known) (view (r .device)) ⌝ }
 {
     let w = controller_written(d.controllers[c], off, size, v);
     let mut e = d;

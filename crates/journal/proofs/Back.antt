@@ -15,7 +15,7 @@ use Rattle.rules.specs.Bytes.{bytes, part}
 use Rattle.rules.specs.Calls.{worldOf}
 use Rattle.rules.specs.Carry.{Machine, Rec, stoodAt, stoodIn, legal, bytesOf, withBytesOf, withDevice, there, stored, line, kindOf, lineOf, linesOf, cleared, undoRec, undo}
 use Rattle.rules.specs.TakeBack.{kind, width, place, value, soundStore, soundKind, sound, allSound, marked, recOf, decode, decodeAll}
-use Rattle.rules.specs.declared.Device.{Device}
+use Rattle.rules.specs.State.{Device}
 use Rattle.rules.proofs.BoolLaws.{and-left, and-right}
 use Rattle.rules.proofs.Back.{length-rec, length-lines}
 use Rattle.rules.proofs.BytesLaws.{length-splice, value-fits}

@@ -12,7 +12,7 @@ use borrow.Author.Tests.{leb-true, leb-false, le-leb, lt-leb, eqb-true, ne-eqb, 
 use Rattle.rules.specs.Act.{window, table}
 use Rattle.rules.specs.Bytes.{bytes, splice}
 use Rattle.rules.specs.Carry.{legal, there, indexOf, line}
-use Rattle.rules.specs.declared.Device.{Device}
+use Rattle.rules.specs.State.{Device}
 use Rattle.rules.proofs.BoolLaws.{and-left, and-right, or-either}
 use Rattle.rules.proofs.BytesLaws.{splice-cons, splice-comm, splice-append, length-bytes, bytes-add}
 use Rattle.rules.proofs.Steps.{in-window, below-window, past-window}

@@ -11,7 +11,7 @@ use Rattle.rules.specs.Bytes.{part}
 use Rattle.rules.specs.Carry.{World, Out, ok, go}
 use Rattle.rules.specs.Minor.{tcdOf, ssize, dsize, moveSizes, moveUnequal, transfer, minorBytes, minorEnd, offset, sourceOffset, destOffset, pass}
 use Rattle.rules.specs.Words.{countOf, sizeOf, wholes}
-use Rattle.rules.specs.declared.Device.{Device}
+use Rattle.rules.specs.State.{Device}
 use Rattle.rules.specs.declared.Refusal.{Refusal}
 use Rattle.rules.specs.declared.Tcd.{Tcd}
 use Rattle.rules.proofs.Steps.{andThen, go-bind}

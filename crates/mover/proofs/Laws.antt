@@ -12,7 +12,7 @@ use Rattle.rules.specs.Calls.{worldOf}
 use Rattle.rules.specs.Carry.{Out, go, bytesOf, fetched}
 use Rattle.rules.specs.Minor.{moveUnit, moveUnits, moveSizes}
 use Rattle.rules.specs.Words.{wrap32, unitOf, moduloAdd}
-use Rattle.rules.specs.declared.Device.{Device}
+use Rattle.rules.specs.State.{Device}
 use Rattle.rules.specs.declared.Refusal.the-variants as Refusal
 use Rattle.rules.proofs.Steps.{fetch-inside, fetch-outside}
 use Rattle.words.specs.Sizes.{aSize, Sized}

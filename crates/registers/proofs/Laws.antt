@@ -13,7 +13,9 @@ use Rattle.rules.specs.Calls.{Asked, write, actOf, badSize, badJournal, isNone,
 use Rattle.rules.specs.Carry.{ok, leave, perform}
 use Rattle.rules.specs.Registers.{within, inBlocks, inTable, blockOf, offsetOf, dmaRead, dmaWrite, readIn, readAt, writeIn, writeAt, controllerWrite, pastTable, pastWord}
 use Rattle.rules.specs.declared.Acted.{Acted}
-use Rattle.rules.specs.declared.Device.{Device}
+use Rattle.rules.specs.State.{Device}
+use Rattle.rules.specs.View.{view}
+use Rattle.rules.specs.declared.Device.{Device as HeldDevice}
 use Rattle.rules.specs.declared.Heard.{Heard}
 use Rattle.rules.specs.declared.Heard.the-variants as Heard
 use Rattle.rules.specs.declared.Reading.the-variants as Reading
@@ -132,13 +134,14 @@ module _ (m : Act Heard) (base : ℕ) (d : Device) (w staging j : List ℕ) (use
   told-no Refusal.NothingStands = refl
   told-no Refusal.Damaged = refl
 
-  pub refuses : (why : Refusal) {n : ℕ} {r : Acted} → r ≡ record { verdict = Verdict.Refused why; used = used; device = d } → n ≡ refusalNumber why
-      → toldActed r w staging j ≡ asked n m base d w staging j used
-  refuses why e f = rw (e, f) (told-no why)
-
   pub accepts : {n : ℕ} {x : Told} → n ≡ 0 → x ≡ toldAfter staging used (perform base (length staging) m (worldOf d w j used)) → x ≡ asked n m base d w staging j used
   unfolding asked
   accepts e q = rw e q
+
+-- of a device as code holds it
+pub refuses : (m : Act Heard) (base : ℕ) (d : HeldDevice) (w staging j : List ℕ) (used : ℕ) (why : Refusal) {n : ℕ} {r : Acted}
+    → r ≡ record { verdict = Verdict.Refused why; used = used; device = d } → n ≡ refusalNumber why → toldActed r w staging j ≡ asked n m base (view d) w staging j used
+refuses m base d w staging j used why e f = rw (e, f) (told-no m base (view d) w staging j used why)
 
 -- a call that leaves staging as it is
 pub asked-after : (c : Asked) (base : ℕ) (d : Device) (w staging j : List ℕ) (used : ℕ) → stagingAfter c staging ≡ staging
@@ -155,15 +158,17 @@ asked-after c base d w staging j used e = by (wrong base (length w) (length j) u
 
 -- ---- write, by the block
 
+-- the refusals before a block is known
+pub write-no : (address size v base : ℕ) (d : HeldDevice) (w staging j : List ℕ) (used : ℕ) (why : Refusal) {r : Acted}
+    → r ≡ record { verdict = Verdict.Refused why; used = used; device = d } → wrong base (length w) (length j) used (write address size v) ≡ refusalNumber why
+    → toldActed r w staging j ≡ after (write address size v) base (view d) w staging j used
+unfolding stagingAfter
+write-no address size v base d w staging j used why e f =
+    refuses (actOf (write address size v)) base d w staging j used why e f ∙ asked-after (write address size v) base (view d) w staging j used refl
+
 module _ (address size v base : ℕ) (d : Device) (w staging j : List ℕ) (used : ℕ) where
   abbrev off : ℕ
   off = address % 0x4000
-
-  -- the refusals before a block is known
-  pub write-no : (why : Refusal) {r : Acted} → r ≡ record { verdict = Verdict.Refused why; used = used; device = d }
-      → wrong base (length w) (length j) used (write address size v) ≡ refusalNumber why → toldActed r w staging j ≡ after (write address size v) base d w staging j used
-  unfolding stagingAfter
-  write-no why e f = refuses (actOf (write address size v)) base d w staging j used why e f ∙ asked-after (write address size v) base d w staging j used refl
 
   pub wrong-size : badSize size ≡ true → wrong base (length w) (length j) used (write address size v) ≡ 1
   unfolding wrong check

@@ -5,7 +5,7 @@ use Prim.Native.Nat.{ℕ}
 use Rattle.rules.specs.Calls.{Asked, ToldRead, toldReading}
 use Rattle.rules.specs.declared.Acknowledged.{Acknowledged}
 use Rattle.rules.specs.declared.Acted.{Acted}
-use Rattle.rules.specs.declared.Device.{Device}
+use Rattle.rules.specs.State.{Device}
 use Rattle.rules.specs.declared.Reading.{Reading}
 use Rattle.rules.proofs.Told.{told-once, heard-once, reading-once}
 use Rattle.registers.specs.Asked.{Made, MadeHeard}

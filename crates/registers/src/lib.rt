@@ -16,6 +16,7 @@ use rules::Verdict;
 ghost use mathlib.Core.Bool.{true, false};
 ghost use mathlib.Core.Path.{_≡_};
 ghost use Prim.Native.Nat.{suc, _<_};
+ghost use Rattle.rules.specs.View.{view};
 ghost use Rattle.rules.specs.Calls.{badSize, isNone, check, toldReading, afterRead, write, inputs, pending};
 ghost use Rattle.rules.specs.Registers.{inBlocks, blockOf, dmaRead, readIn, dmaWrite, controllerWrite};
 ghost use Rattle.intc.specs.Cells.{reads};
@@ -75,7 +76,7 @@ fn reading(cell: Cell) -> Reading
 
 fn read_dma(d: Device, off: u32, size: u32) -> Reading
     requires { ⌜ (off < 0x4000) × (badSize size ≡ false) ⌝ }
-    ensures { λ r. ⌜ toldReading r ≡ readSo (check (isNone (dmaRead d off size)) 3 (check (pastEnd off size) 4 0)) (dmaRead d off size) ⌝ }
+    ensures { λ r. ⌜ toldReading r ≡ readSo (check (isNone (dmaRead (view d) off size)) 3 (check (pastEnd off size) 4 0)) (dmaRead (view d) off size) ⌝ }
 {
     if past_end(off, size) {
         return Reading::Refused(Refusal::Crossing);
@@ -85,14 +86,14 @@ fn read_dma(d: Device, off: u32, size: u32) -> Reading
 
 fn read_controller(d: Device, c: usize, off: u32, size: u32) -> Reading
     requires { ⌜ c < 3 ⌝ }
-    ensures { λ r. ⌜ toldReading r ≡ readSo (check (isNone (readIn d (suc c) off size)) 3 0) (readIn d (suc c) off size) ⌝ }
+    ensures { λ r. ⌜ toldReading r ≡ readSo (check (isNone (readIn (view d) (suc c) off size)) 3 0) (readIn (view d) (suc c) off size) ⌝ }
 {
     reading(intc::intc_read(device::controller_at(d, c), off, size))
 }
 
 // "Register read: full address, size."
 pub fn read(d: Device, address: u32, size: u32) -> Reading
-    ensures { λ r. ⌜ toldReading r ≡ afterRead d address size ⌝ }
+    ensures { λ r. ⌜ toldReading r ≡ afterRead (view d) address size ⌝ }
 {
     if asking::bad_size(size) {
         return Reading::Refused(Refusal::Size);
@@ -113,7 +114,7 @@ pub fn read(d: Device, address: u32, size: u32) -> Reading
 // A DMA register or the table: no array is compared.
 fn write_dma(d: Device, off: u32, size: u32, value: u32, journal: &mut [u8], used: usize) -> Acted
     requires { ⌜ (off < 0x4000) × (badSize size ≡ false) ⌝ }
-    ensures { λ r. ⌜ Writes (dmaWrite off size value) (pastEnd off size) d used r (now (journal .entry)) (now (journal .exit)) ⌝ }
+    ensures { λ r. ⌜ Writes (dmaWrite off size value) (pastEnd off size) (view d) used r (now (journal .entry)) (now (journal .exit)) ⌝ }
 {
     if !dma::edma_known(off, size) {
         return refused(d, Refusal::Register, used);
@@ -137,8 +138,8 @@ fn write_dma(d: Device, off: u32, size: u32, value: u32, journal: &mut [u8], use
 
 // The end of an act that came to `e` without a store.
 fn stored(d: Device, e: Device, touched: Touched, journal: &mut [u8], used: usize) -> Acted
-    requires { ⌜ DidNoStore d e touched used (now journal) ⌝ }
-    ensures { λ r. ⌜ SettlesDoing d e used r (now (journal .entry)) (now (journal .exit)) ⌝ }
+    requires { ⌜ DidNoStore (view d) (view e) touched used (now journal) ⌝ }
+    ensures { λ r. ⌜ SettlesDoing (view d) (view e) used r (now (journal .entry)) (now (journal .exit)) ⌝ }
 {
     let s = Reached {
         walk: Walk::On(used),
@@ -158,7 +159,7 @@ fn write_controller(
     used: usize,
 ) -> Acted
     requires { ⌜ (c < 3) × (badSize size ≡ false) ⌝ }
-    ensures { λ r. ⌜ Writes (controllerWrite c off size value) (pastPart off size) d used r (now (journal .entry)) (now (journal .exit)) ⌝ }
+    ensures { λ r. ⌜ Writes (controllerWrite c off size value) (pastPart off size) (view d) used r (now (journal .entry)) (now (journal .exit)) ⌝ }
 {
     if past_part(off, size) {
         return refused(d, Refusal::Crossing, used);
@@ -189,7 +190,7 @@ pub fn write(
     journal: &mut [u8],
     used: usize,
 ) -> Acted
-    ensures { λ r. ⌜ Made (write address size value) d used r (now (journal .entry)) (now (journal .exit)) ⌝ }
+    ensures { λ r. ⌜ Made (write address size value) (view d) used r (now (journal .entry)) (now (journal .exit)) ⌝ }
 {
     if asking::bad_size(size) {
         return refused(d, Refusal::Size, used);
@@ -217,7 +218,7 @@ pub fn inputs(
     journal: &mut [u8],
     used: usize,
 ) -> Acted
-    ensures { λ r. ⌜ Made (inputs standing lines0 lines1 lines2) d used r (now (journal .entry)) (now (journal .exit)) ⌝ }
+    ensures { λ r. ⌜ Made (inputs standing lines0 lines1 lines2) (view d) used r (now (journal .entry)) (now (journal .exit)) ⌝ }
 {
     if asking::bad_journal(journal.len(), used) {
         return refused(d, Refusal::Journal, used);
@@ -235,7 +236,7 @@ pub fn inputs(
 
 // "Pending: stores a 32-bit count for one channel": the pending counts are compared.
 pub fn pending(d: Device, channel: u32, count: u32, journal: &mut [u8], used: usize) -> Acted
-    ensures { λ r. ⌜ Made (pending channel count) d used r (now (journal .entry)) (now (journal .exit)) ⌝ }
+    ensures { λ r. ⌜ Made (pending channel count) (view d) used r (now (journal .entry)) (now (journal .exit)) ⌝ }
 {
     if asking::bad_journal(journal.len(), used) {
         return refused(d, Refusal::Journal, used);
@@ -268,7 +269,7 @@ fn heard_by(v: Verdict, h: Heard) -> Heard
 
 // "Acknowledge: `ipl`, any byte." "Each accepted act writes a journal group, an acknowledge that finds nothing too." Taken counts are compared.
 pub fn acknowledge(d: Device, ipl: u8, journal: &mut [u8], used: usize) -> Acknowledged
-    ensures { λ r. ⌜ MadeHeard ipl d used r (now (journal .entry)) (now (journal .exit)) ⌝ }
+    ensures { λ r. ⌜ MadeHeard ipl (view d) used r (now (journal .entry)) (now (journal .exit)) ⌝ }
 {
     if asking::bad_journal(journal.len(), used) {
         return Acknowledged {

@@ -7,7 +7,7 @@ use native.Mathlib.Omega.{arith}
 use lib.ListN.{length, take}
 use Rattle.rules.specs.Carry.{After, made, unmade}
 use Rattle.rules.specs.Calls.{Asked, wrong, wrongBack, Told, told, after, afterBack, ToldRead, toldRead, afterRead}
-use Rattle.rules.specs.declared.Device.{Device}
+use Rattle.rules.specs.State.{Device}
 use Rattle.rules.specs.declared.Heard.{Heard}
 use Rattle.rules.proofs.History.{Entry, Walk, walk, Alone}
 use Rattle.rules.proofs.CallLaws.{AsGiven, act-wrong, back-wrong, act-as-given, back-as-given}

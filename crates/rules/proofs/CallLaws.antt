@@ -14,7 +14,7 @@ use Rattle.rules.specs.With.{withTable}
 use Rattle.rules.specs.Carry.{Machine, World, ok, no, linesOf, go, After, made, unmade, lastLines, cleared, leave, perform, undo}
 use Rattle.rules.specs.TakeBack.{decodeAll, takeBack}
 use Rattle.rules.specs.Calls.{Asked, write, inputs, pending, run, service, ack, actOf, badWindow, badJournal, check, wrong, wrongBack, Told, told, stagingAfter, worldOf, toldAfter, after, heardNothing, afterBack, ToldRead, toldRead, afterRead}
-use Rattle.rules.specs.declared.Device.{Device}
+use Rattle.rules.specs.State.{Device}
 use Rattle.rules.specs.declared.Heard.{Heard}
 use Rattle.rules.specs.declared.Heard.the-variants as Heard
 use Rattle.rules.proofs.BoolLaws.{neither}

@@ -11,6 +11,8 @@ use Rattle.rules.specs.Bytes.{Bytes}
 use Rattle.rules.specs.Carry.{World, After, made, unmade}
 use Rattle.rules.specs.TakeBack.{takeBack}
 use Rattle.rules.specs.Calls.{badWindow, wrongBack}
+use Rattle.rules.specs.View.{view}
+use Rattle.rules.specs.declared.Device.{Device as HeldDevice}
 use Rattle.rules.specs.declared.Heard.{Heard}
 use Rattle.rules.specs.declared.Heard.the-variants as Heard
 use Rattle.rules.proofs.FieldLaws.{Sound}
@@ -35,16 +37,16 @@ pub record Start (base : ℕ) (h : Held) : Type 0 where
   pub device-sound : Sound (h .device)
   pub table-fits : length (h .device .table) ≤ 2 ^ 32
 
--- every device of the declared type will do
-pub typed-start : (base : ℕ) (h : Held) → h .used ≡ 0 → length (h .journal) ≤ 2 ^ 28 → badWindow base (length (h .window)) ≡ false → Bytes (h .window) → Typed (h .device)
-    → Start base h
-typed-start base h empty room passes bytes typed = record {
-  empty = empty;
+-- every value of the declared type will do
+pub typed-start : (base : ℕ) (d : HeldDevice) (window journal : List ℕ) → Typed d → length journal ≤ 2 ^ 28 → badWindow base (length window) ≡ false → Bytes window
+    → Start base (record { device = view d; window = window; journal = journal; used = 0 })
+typed-start base d window journal typed room passes bytes = record {
+  empty = refl;
   room = room;
   window-passes = passes;
   window-bytes = bytes;
-  device-sound = sound (h .device) typed;
-  table-fits = omega (arith, table-size (h .device) typed);
+  device-sound = sound d typed;
+  table-fits = omega (arith, table-size d typed);
 }
 
 module _ (base : ℕ) (start : Held) (begins : Start base start) where

@@ -7,7 +7,9 @@ use native.Mathlib.Nat.{mod-lt}
 use lib.Dec.{leb}
 use lib.ListN.{length}
 use lib.Pow.{pow-pos}
-use Rattle.rules.specs.declared.Device.{Device}
+use Rattle.rules.specs.State.{Device}
+use Rattle.rules.specs.View.{view}
+use Rattle.rules.specs.declared.Device.{Device as HeldDevice}
 use Rattle.rules.specs.Act.{Act, Done, Endless, Stage, Fetch, Store, Ask, Put, Look, Space, window, table, Field, Setting, stage, fetch, store, ask, put, change, look, when}
 use Rattle.rules.specs.Act as acts
 use Rattle.rules.specs.Bytes.{bytes, splice}
@@ -103,12 +105,12 @@ module _ {r : Rights} where
 
 -- ---- a device as the steps find it
 
--- a sound device with a table of 2048 bytes; so is every value of the type
+-- a sound device with a table of 2048 bytes; every value of the declared type stands for one
 pub record Proper (d : Device) : Type 0 where
   pub sound : Sound d
   pub size : length (d .table) ≡ 2048
 
-pub typed-proper : (d : Device) → Typed d → Proper d
+pub typed-proper : (d : HeldDevice) → Typed d → Proper (view d)
 typed-proper d t = record { sound = sound d t; size = table-size d t }
 
 pub proper-table : (i n v : ℕ) (d : Device) → Proper d → Proper (withTable d (splice (d .table) i (bytes n v)))

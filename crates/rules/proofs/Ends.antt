@@ -8,7 +8,7 @@ use borrow.Author.Tests.{eqb-true, eqb-false, ltb-false}
 use lib.Bits.{bitAnd, bitOr}
 use lib.Dec.{eqb, ltb}
 use lib.ListN.{length, length-drop}
-use Rattle.rules.specs.declared.Device.{Device}
+use Rattle.rules.specs.State.{Device}
 use Rattle.rules.specs.Act.{Act, done, nothing, ask, put, change, when, _>>=_, _>>_, Field, KICK, DEFERRED, DEADLINE, BUSY, MAJORS}
 use Rattle.rules.specs.Carry.{World, go}
 use Rattle.rules.specs.Fields.{bitsOf, holds}

@@ -9,8 +9,7 @@ use native.Mathlib.Omega.{arith}
 use borrow.Author.Tests.{eqb-true, ltb-true}
 use lib.Dec.{eqb, ltb}
 use lib.ListN.{getD, set, length, replicate, getD-replicate, length-set}
-use Rattle.rules.specs.declared.Controller.{Controller}
-use Rattle.rules.specs.declared.Device.{Device}
+use Rattle.rules.specs.State.{Controller, Device}
 use Rattle.rules.specs.Act.{Field, CR, ERQ, EEI, INT, ERR, KICK, DEFERRED, DEADLINE, LEVEL, STANDING, MASKS, FORCED, LINES, CONFIG, BUSY, MAJORS, PENDING, SOURCE, TAKEN}
 use Rattle.rules.specs.Bytes.{Bytes}
 use Rattle.rules.specs.With.{withControllers, withMasks, withForced, withLines, withConfig, withLevels}
@@ -213,7 +212,7 @@ levels-put d (suc (suc (suc c))) s v x y z = refl
 pub record PutAt (d e : Device) (s : ℕ × ℕ) (v : ℕ) : Type 0 where
   pub three : length (e .controllers) ≡ 3
   pub table : e .table ≡ d .table
-  pub ignore : e .«ignore_masks» ≡ d .«ignore_masks»
+  pub ignore : e .ignore ≡ d .ignore
   pub parts : partsOf e ≡ setIn (partsOf d) s v
 
 -- the one law of each field

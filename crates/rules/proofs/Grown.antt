@@ -6,7 +6,7 @@ use Prim.Native.Nat.{ℕ, _+_, _%_, _^_, _≤_, min}
 use native.Mathlib.Omega.{arith}
 use lib.ListN.{length, take, length-append, length-take, length-drop}
 use lib.Seq.{take-at, take-take, length-take-le}
-use Rattle.rules.specs.declared.Device.{Device}
+use Rattle.rules.specs.State.{Device}
 use Rattle.rules.specs.Act.{Act, Space, Field}
 use Rattle.rules.specs.Calls.{worldOf}
 use Rattle.rules.specs.Carry.{World, lineOf, stoodAt, fetched, recorded, go}

@@ -14,7 +14,7 @@ use Rattle.rules.specs.Carry.{World, Out, ok, no, go, After, made, unmad
 use Rattle.rules.specs.Lines.{sources, levelBytes, relevel, answers, Found, loudestAbove, above, heardFrom, hear, acknowledge}
 use Rattle.rules.specs.TakeBack.{takeBack}
 use Rattle.rules.specs.Words.{has}
-use Rattle.rules.specs.declared.Device.{Device}
+use Rattle.rules.specs.State.{Device}
 use Rattle.rules.specs.declared.Heard.{Heard}
 use Rattle.rules.specs.declared.Heard.the-variants as Heard
 use Rattle.rules.proofs.Leads.{IfAnswered, Leads, leads-bind, leads-then, leads-done, leads-cond, shrinks}

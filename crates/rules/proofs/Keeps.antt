@@ -57,7 +57,7 @@ module _ (base staging : ℕ) (P : World → Type 0)
 pub record Alike (m₀ m : Machine) : Type 0 where
   pub mem-is : length (m .mem) ≡ length (m₀ .mem)
   pub table-is : length (m .dev .table) ≡ length (m₀ .dev .table)
-  pub ignore-is : m .dev .«ignore_masks» ≡ m₀ .dev .«ignore_masks»
+  pub ignore-is : m .dev .ignore ≡ m₀ .dev .ignore
 
 pub alike-store : (base : ℕ) {m₀ : Machine} (sp : Space) (a n v : ℕ) (m : Machine) → Alike m₀ m → Alike m₀ (stored base sp a n v m)
 unfolding stored withBytesOf bytesOf

@@ -11,6 +11,7 @@ pub mod Numbers
 pub mod Steps
 pub mod Keeps
 pub mod Typed
+pub mod ViewLaws
 pub mod Undo
 pub mod Back
 pub mod Free

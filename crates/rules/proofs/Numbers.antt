@@ -9,7 +9,7 @@ use native.Mathlib.Omega.{arith}
 use borrow.Author.Tests.{lt-ltb, le-ltb, ltb-true, ltb-false}
 use lib.Dec.{ltb}
 use lib.ListN.{getD, length, List·getD-eq-default}
-use Rattle.rules.specs.declared.Device.{Device}
+use Rattle.rules.specs.State.{Device}
 use Rattle.rules.specs.Act.{Field, BUSY, MAJORS, PENDING, SOURCE, TAKEN}
 use Rattle.rules.specs.Fields.{joined, fieldsOf, fieldAt, ofController, holds}
 use Rattle.rules.proofs.PartLaws.{Within}

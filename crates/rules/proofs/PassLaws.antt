@@ -11,7 +11,7 @@ use lib.Dec.{eqb, ltb, lit<}
 use lib.ListN.{getD, length}
 use lib.Seq.{getD-set-same}
 use borrow.Author.Tests.{ltb-true, ltb-false, eq-eqb, ne-eqb, eqb-true, eqb-false, not-true}
-use Rattle.rules.specs.declared.Device.{Device}
+use Rattle.rules.specs.State.{Device}
 use Rattle.rules.specs.declared.Tcd.{Tcd}
 use Rattle.rules.specs.Act.{Act, fetch, store, ask, change, when, Space, window, table, KICK, INT, ERQ, MAJORS, CR}
 use Rattle.rules.specs.Act as acts

@@ -14,7 +14,7 @@ use Rattle.rules.specs.Carry.{World, Out, ok, no, fetched, recorded, Aft
 use Rattle.rules.specs.Fields.{bitsOf, holds, settingOf}
 use Rattle.rules.specs.Registers.{inBlocks, blockOf, offsetOf, writeIn, writeAt, readAt, pastTable, pastWord}
 use Rattle.rules.specs.TakeBack.{takeBack}
-use Rattle.rules.specs.declared.Device.{Device}
+use Rattle.rules.specs.State.{Device}
 use Rattle.rules.specs.declared.Heard.{Heard}
 use Rattle.rules.specs.declared.Heard.the-variants as Heard
 use Rattle.rules.proofs.Bench.{readNumber}

@@ -5,8 +5,7 @@ use Prim.Native.Nat.{ℕ, zero, suc, _<_}
 use native.Mathlib.Omega.{arith}
 use lib.ListN.{getD}
 use lib.Seq.{ext-getD}
-use Rattle.rules.specs.declared.Controller.{Controller}
-use Rattle.rules.specs.declared.Device.{Device}
+use Rattle.rules.specs.State.{Controller, Device}
 use Rattle.rules.specs.Fields.{headOf, partsOf, fieldsOf, controller, noController}
 use Rattle.rules.proofs.PartLaws.{parts-same}
 use Rattle.rules.proofs.FieldLaws.{sizes, Sound, sized}
@@ -45,7 +44,7 @@ module _ (d e : Device) (s : Sound d) (t : Sound e) (same : fieldsOf d ≡ field
       (same-controller _ _ (number 24) (number 25) (number 26) (number 27) (part 6))
       i (omega (arith, s .three)))
 
-  pub device-same : d .table ≡ e .table → d .«ignore_masks» ≡ e .«ignore_masks» → d ≡ e
+  pub device-same : d .table ≡ e .table → d .ignore ≡ e .ignore → d ≡ e
   unfolding partsOf headOf
   device-same p q =
       rw (number 0, number 1, number 2, number 3, number 4, number 5, number 6, number 7, number 8, number 9, q, p, part 1, part 2, part 3, controllers-same, part 8) refl

@@ -7,8 +7,7 @@ use mathlib.Core.Path.{_≡_, refl, sym, _∙_}
 use Prim.Native.Nat.{ℕ, zero, suc, _-_}
 use lib.Dec.{eqb, ltb}
 use lib.ListN.{getD, set}
-use Rattle.rules.specs.declared.Controller.{Controller}
-use Rattle.rules.specs.declared.Device.{Device}
+use Rattle.rules.specs.State.{Controller, Device}
 use Rattle.rules.specs.Act.{Act, Space, window, table, Field, CR, ERQ, EEI, INT, ERR, KICK, DEFERRED, DEADLINE, LEVEL, STANDING, MASKS, FORCED, LINES, CONFIG, BUSY, MAJORS, PENDING, TAKEN, SOURCE, IGNORE, nothing}
 use Rattle.rules.specs.Calls.{setInputs, setPending, orNothing, levelled}
 use Rattle.rules.specs.Carry.{World, stored, withBytesOf, withDevice, recorded, go}

@@ -16,7 +16,7 @@ use Rattle.rules.specs.Carry.{Machine, World, Out, ok, no, bytesOf, with
 use Rattle.rules.specs.Fields.{bitsOf, withField, fieldAt, withSome, fitsSome}
 use Rattle.rules.specs.TakeBack.{marked, kind, width, place, value, soundField, soundKind, sound, allSound, recOf, decode, decodeAll, takeBack}
 use Rattle.rules.specs.With.{withTable}
-use Rattle.rules.specs.declared.Device.{Device}
+use Rattle.rules.specs.State.{Device}
 use Rattle.rules.specs.declared.Heard.{Heard}
 use Rattle.rules.specs.declared.Heard.the-variants as Heard
 use Rattle.rules.proofs.BoolLaws.{and-left, and-right}
@@ -117,7 +117,7 @@ module _ (P : Device → Type 0) (onTable : (i n v : ℕ) (d : Device) → P d �
 
 -- ---- "Ignoring masks is a setting chosen with the device, which no call changes"
 
-setting-on : (ignore : Bool) (f : Field) (v : ℕ) (d : Device) → v < 2 ^ bitsOf f → d .«ignore_masks» ≡ ignore → withField f v d .«ignore_masks» ≡ ignore
+setting-on : (ignore : Bool) (f : Field) (v : ℕ) (d : Device) → v < 2 ^ bitsOf f → d .ignore ≡ ignore → withField f v d .ignore ≡ ignore
 setting-on ignore CR v d l e = e
 setting-on ignore ERQ v d l e = e
 setting-on ignore EEI v d l e = e
@@ -142,13 +142,13 @@ setting-on ignore (TAKEN i) v d l e = e
 
 module _ (base : ℕ) (d : Device) (window journal : List ℕ) (used : ℕ) where
   abbrev AsSet : Device → Type 0
-  AsSet e = e .«ignore_masks» ≡ d .«ignore_masks»
+  AsSet e = e .ignore ≡ d .ignore
 
-  pub act-keeps-setting : (c : Asked) (staging : List ℕ) → deviceTold (after c base d window staging journal used) .«ignore_masks» ≡ d .«ignore_masks»
-  act-keeps-setting c staging = act-stays AsSet (λ i n v e p. p) (setting-on (d .«ignore_masks»)) base d window journal used refl c staging
+  pub act-keeps-setting : (c : Asked) (staging : List ℕ) → deviceTold (after c base d window staging journal used) .ignore ≡ d .ignore
+  act-keeps-setting c staging = act-stays AsSet (λ i n v e p. p) (setting-on (d .ignore)) base d window journal used refl c staging
 
-  pub back-keeps-setting : deviceTold (afterBack base d window journal used) .«ignore_masks» ≡ d .«ignore_masks»
-  back-keeps-setting = back-stays AsSet (λ i n v e p. p) (setting-on (d .«ignore_masks»)) base d window journal used refl
+  pub back-keeps-setting : deviceTold (afterBack base d window journal used) .ignore ≡ d .ignore
+  back-keeps-setting = back-stays AsSet (λ i n v e p. p) (setting-on (d .ignore)) base d window journal used refl
 
   pub act-keeps-proper : (c : Asked) (staging : List ℕ) → Proper d → Proper (deviceTold (after c base d window staging journal used))
   act-keeps-proper c staging p = act-stays Proper proper-table proper-field base d window journal used p c staging

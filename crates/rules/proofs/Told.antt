@@ -1,13 +1,17 @@
 -- Two answers that tell the same are the same, with what is there beside them: every contract over `toldActed`, `toldHeard` or `toldReading` fixes
 -- its outcome. Assumes nothing.
-use mathlib.Core.List.{List, [], _∷_}
-use mathlib.Core.Path.{_≡_, refl, sym, ap, _∙_}
+use mathlib.Core.List.{List, [], _∷_, map}
+use mathlib.Core.Path.{_≡_, refl, sym, ap, ap₂, _∙_}
 use Prim.Native.Nat.{ℕ, _-_}
 use native.Mathlib.Omega.{arith}
-use lib.ListN.{getD}
+use lib.ListN.{getD, drop}
 use Rattle.rules.specs.Calls.{refusalNumber, verdictNumber, toldActed, toldHeard, toldReading}
+use Rattle.rules.specs.State.{Device}
+use Rattle.rules.specs.View.{viewController, view}
 use Rattle.rules.specs.declared.Acknowledged.{Acknowledged}
 use Rattle.rules.specs.declared.Acted.{Acted}
+use Rattle.rules.specs.declared.Controller.{Controller as HeldController}
+use Rattle.rules.specs.declared.Device.{Device as HeldDevice}
 use Rattle.rules.specs.declared.Reading.{Reading}
 use Rattle.rules.specs.declared.Reading.the-variants as Reading
 use Rattle.rules.specs.declared.Refusal.{Refusal}
@@ -67,13 +71,47 @@ verdict-once Verdict.Accepted (Verdict.Refused s) e = absurd (refusal-counts s (
 verdict-once (Verdict.Refused r) Verdict.Accepted e = absurd (refusal-counts r e)
 verdict-once (Verdict.Refused r) (Verdict.Refused s) e = ap (λ x. Verdict.Refused x) (refusal-once r s e)
 
+-- ---- what stands for the same is the same
+
+controllers-once : (ks ls : List HeldController) → map viewController ks ≡ map viewController ls → ks ≡ ls
+controllers-once [] [] e = refl
+controllers-once [] (l ∷ ls) e = absurd (let z : _≡_ {A = ℕ} 0 1 = cc in omega arith)
+controllers-once (k ∷ ks) [] e = absurd (let z : _≡_ {A = ℕ} 0 1 = cc in omega arith)
+controllers-once (k ∷ ks) (l ∷ ls) e = ap₂ (λ x xs. x ∷ xs) (one (ap (λ xs. getD xs 0 (viewController k)) e)) (controllers-once ks ls (ap (λ xs. drop 1 xs) e))
+  where
+    one : viewController k ≡ viewController l → k ≡ l
+    one p = λ i. record { masks = p i .masks; forced = p i .forced; lines = p i .lines; levels = p i .levels; config = p i .config }
+
+pub view-once : (d e : HeldDevice) → view d ≡ view e → d ≡ e
+view-once d e p =
+    let cs : d .controllers ≡ e .controllers = controllers-once (d .controllers) (e .controllers) (ap (λ (x : Device). x .controllers) p) in λ i.
+    record {
+      erq = p i .erq;
+      eei = p i .eei;
+      int = p i .int;
+      err = p i .err;
+      kick = p i .kick;
+      deferred = p i .deferred;
+      deadline = p i .deadline;
+      standing = p i .standing;
+      table = p i .table;
+      busy = p i .busy;
+      majors = p i .majors;
+      taken = p i .taken;
+      pending = p i .pending;
+      controllers = cs i;
+      cr = p i .cr;
+      level = p i .level;
+      «ignore_masks» = p i .ignore;
+    }
+
 -- ---- an act: the answer, window, staging and journal
 
 pub told-once : (a b : Acted) {w x s t i j : List ℕ} → toldActed a w s i ≡ toldActed b x t j → (a ≡ b) × (w ≡ x) × (s ≡ t) × (i ≡ j)
 told-once a b e =
     let verdict : a .verdict ≡ b .verdict = verdict-once (a .verdict) (b .verdict) (cc e) in
     let used : a .used ≡ b .used = cc e in
-    let device : a .device ≡ b .device = cc e in
+    let device : a .device ≡ b .device = view-once (a .device) (b .device) (cc e) in
     (λ k. record { verdict = verdict k; used = used k; device = device k }, cc e, cc e, cc e)
 
 -- an acknowledge
@@ -82,7 +120,7 @@ heard-once a b e =
     let verdict : a .verdict ≡ b .verdict = verdict-once (a .verdict) (b .verdict) (cc e) in
     let heard : a .heard ≡ b .heard = cc e in
     let used : a .used ≡ b .used = cc e in
-    let device : a .device ≡ b .device = cc e in
+    let device : a .device ≡ b .device = view-once (a .device) (b .device) (cc e) in
     (λ k. record { verdict = verdict k; heard = heard k; used = used k; device = device k }, cc e, cc e, cc e)
 
 -- a register read

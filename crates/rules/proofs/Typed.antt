@@ -1,4 +1,4 @@
--- Every value of the declared type `Device` is sound, and its table has 2048 bytes. Assumes nothing.
+-- What every value of the declared type `Device` stands for is sound, and its table has 2048 bytes. Assumes nothing.
 use mathlib.Core.Path.{_≡_, sym, _∙_}
 use mathlib.Core.List.{List, [], _∷_, map}
 use Prim.Native.Nat.{ℕ, zero, suc, _+_, _≤_, _<_, _^_}
@@ -18,8 +18,10 @@ use denote.Struct.Laws.{val}
 use Rattle.rules.proofs.Device.{the-type}
 use Rattle.rules.proofs.Device.Laws.{the-laws}
 use Rattle.rules.proofs.Controller.{the-field}
-use Rattle.rules.specs.declared.Controller.{Controller}
-use Rattle.rules.specs.declared.Device.{Device}
+use Rattle.rules.specs.State.{Controller}
+use Rattle.rules.specs.View.{viewController, view}
+use Rattle.rules.specs.declared.Controller.{Controller as HeldController}
+use Rattle.rules.specs.declared.Device.{Device as HeldDevice}
 use Rattle.rules.specs.Bytes.{Bytes}
 use Rattle.rules.specs.Fields.{controller, headOf, partsOf}
 use Rattle.rules.proofs.PartLaws.{Within}
@@ -27,7 +29,7 @@ use Rattle.rules.proofs.FieldLaws.{Sound, bitParts}
 use Rattle.rules.proofs.Keeps.{Good}
 
 -- what `.good` holds of a parameter, and `.ok` of a call's result
-abbrev pub Typed : Device → Type 0
+abbrev pub Typed : HeldDevice → Type 0
 Typed d = Is (row the-type) d (val the-type the-laws d ∷ [])
 
 -- an array of numbers
@@ -54,8 +56,8 @@ record Fits (c : Controller) : Type 0 where
   config : c .config < 2 ^ 16
   levels : Within (replicate 64 8) (c .levels)
 
-each-fits : (cs : List Controller) (us : List Val) → shadow (each (the-field .row .Denot) (the-field .row .own) (map (the-field .into) cs) us)
-    → (i : ℕ) → i < length cs → Fits (controller cs i)
+each-fits : (cs : List HeldController) (us : List Val) → shadow (each (the-field .row .Denot) (the-field .row .own) (map (the-field .into) cs) us)
+    → (i : ℕ) → i < length cs → Fits (controller (map viewController cs) i)
 each-fits [] us s i h = absurd (not-suc-le-zero h)
 each-fits (c ∷ cs) [] s i h = absurd s
 each-fits (c ∷ cs) (u ∷ us) s zero h =
@@ -70,16 +72,16 @@ each-fits (c ∷ cs) (u ∷ us) s zero h =
     }
 each-fits (c ∷ cs) (u ∷ us) s (suc i) h = each-fits cs us (s .1) i (le-of-suc-le-suc h)
 
-pub table-size : (d : Device) → Typed d → length (d .table) ≡ 2048
+pub table-size : (d : HeldDevice) → Typed d → length (d .table) ≡ 2048
 table-size d g = search (needs, g .1 .1 .1 .1 .1 .1 .1 .1 .1 .1 .0)
 
-pub sound : (d : Device) → Typed d → Sound d
+pub sound : (d : HeldDevice) → Typed d → Sound (view d)
 unfolding bitParts partsOf headOf
 sound d g =
     let t = g .1 .1 .1 .1 .1 .1 .1 .1 .1 .1 in
     let cs = t .1 .1 .1 .1 .1 .0 in
     let three : length (d .controllers) ≡ 3 = sym (length-map (d .controllers) (the-field .into)) ∙ cs .1 .0 .1 in
-    let k : (i : ℕ) → i < 3 → Fits (controller (d .controllers) i) = λ i l. each-fits (d .controllers) _ (cs .1 .1) i (omega arith) in
+    let k : (i : ℕ) → i < 3 → Fits (controller (map viewController (d .controllers)) i) = λ i l. each-fits (d .controllers) _ (cs .1 .1) i (omega arith) in
     let a = k 0 (lit< tt) in
     let b = k 1 (lit< tt) in
     let c = k 2 (lit< tt) in
@@ -100,7 +102,7 @@ sound d g =
     let cr : d .cr < 2 ^ 32 = search (needs, t .1 .1 .1 .1 .1 .1) in
     let level : d .level < 2 ^ 8 = search (needs, t .1 .1 .1 .1 .1 .1) in
     record {
-      three = three;
+      three = length-map (d .controllers) viewController ∙ three;
       fitting = (
         (cr, (erq, (eei, (int, (err, (kick, (deferred, (deadline, (level, (standing, (z, (z, (z, (z, (z, (z, (a .masks, (a .forced, (a .lines, (a .config, (b .masks, (b .forced, (b .lines, (b .config, (c .masks, (c .forced, (c .lines, (c .config, zs 36)))))))))))))))))))))))))))),
         (
@@ -134,5 +136,5 @@ sound d g =
     zeros (suc n) = (lit< tt, zeros n)
 
 -- and so a machine of such a device and a window of bytes is good
-pub good : (base : ℕ) (mem : List ℕ) (d : Device) → Typed d → Bytes mem → base + length mem ≤ 2 ^ 32 → Good base (record { mem = mem; dev = d })
+pub good : (base : ℕ) (mem : List ℕ) (d : HeldDevice) → Typed d → Bytes mem → base + length mem ≤ 2 ^ 32 → Good base (record { mem = mem; dev = view d })
 good base mem d t b h = record { sound-dev = sound d t; mem-bytes = b; mem-below = h; table-below = omega (arith, table-size d t) }

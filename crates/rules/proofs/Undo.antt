@@ -12,7 +12,7 @@ use lib.ListN.{set, length, length-append}
 use lib.Seq.{set-at, append-snoc}
 use Rattle.rules.specs.Act.{Space, window, table, Field}
 use Rattle.rules.specs.Bytes.{Bytes, bytes, number, part, splice}
-use Rattle.rules.specs.declared.Device.{Device}
+use Rattle.rules.specs.State.{Device}
 use Rattle.rules.specs.With.{withTable}
 use Rattle.rules.specs.Fields.{headOf, partsOf, fieldsOf, fieldAt, withSome}
 use Rattle.rules.specs.Carry.{Machine, Rec, stoodAt, stoodIn, bytesOf, withBytesOf, withDevice, indexOf, fetched, stored, changed, undoRec, undo}
@@ -56,7 +56,7 @@ record Restored (m e : Machine) (l : List ℕ) : Type 0 where
   mem : e .mem ≡ m .mem
   fields : fieldsOf (e .dev) ≡ l
   table : e .dev .table ≡ m .dev .table
-  ignore : e .dev .«ignore_masks» ≡ m .dev .«ignore_masks»
+  ignore : e .dev .ignore ≡ m .dev .ignore
   sound : Sound (e .dev)
 
 module _ (base : ℕ) where
@@ -100,7 +100,7 @@ module _ (base : ℕ) where
       differs false t rest = one-back p xs x y n b m (undo base (changed (suc n) xs ys) m) lp (f .0) (has-bits x y b (f .0) (g .0) t) (a .0) rest
 
   -- the records of the fields that differ from those of m₀, undone at m: the device of m₀, but for the table
-  pub fields-back : (m₀ m : Machine) → Sound (m₀ .dev) → Sound (m .dev) → m .dev .«ignore_masks» ≡ m₀ .dev .«ignore_masks»
+  pub fields-back : (m₀ m : Machine) → Sound (m₀ .dev) → Sound (m .dev) → m .dev .ignore ≡ m₀ .dev .ignore
       → undo base (changed 0 (fieldsOf (m₀ .dev)) (fieldsOf (m .dev))) m ≡ asIn (m₀ .dev) m
   unfolding fieldsOf partsOf headOf
   fields-back m₀ m s t i =

@@ -15,8 +15,8 @@ use Rattle.rules.specs.Lines.{ownedFrom, relevel, acknowledge}
 use Rattle.rules.specs.Registers.{inBlocks, writeAt, readAt, pastTable, pastWord}
 use Rattle.rules.specs.declared.Acknowledged.{Acknowledged}
 use Rattle.rules.specs.declared.Acted.{Acted}
-use Rattle.rules.specs.declared.Controller.{Controller}
-use Rattle.rules.specs.declared.Device.{Device}
+use Rattle.rules.specs.State.{Controller, Device}
+use Rattle.rules.specs.View.{view}
 use Rattle.rules.specs.declared.Heard.{Heard}
 use Rattle.rules.specs.declared.Heard.the-variants as Heard
 use Rattle.rules.specs.declared.Refusal.{Refusal}
@@ -89,7 +89,7 @@ fresh ignore = record {
   controllers = freshController ∷ freshController ∷ freshController ∷ [];
   cr = 0;
   level = 0;
-  «ignore_masks» = ignore;
+  ignore = ignore;
 }
 
 -- ---- the acts
@@ -213,10 +213,10 @@ journalTold (told n heard d window staging journal used) = journal
 
 -- what an answer tells, with window, staging and journal as they are then
 abbrev pub toldActed : Acted → List ℕ → List ℕ → List ℕ → Told
-toldActed r window staging journal = told (verdictNumber (r .verdict)) Heard.Nothing (r .device) window staging journal (r .used)
+toldActed r window staging journal = told (verdictNumber (r .verdict)) Heard.Nothing (view (r .device)) window staging journal (r .used)
 
 abbrev pub toldHeard : Acknowledged → List ℕ → List ℕ → List ℕ → Told
-toldHeard r window staging journal = told (verdictNumber (r .verdict)) (r .heard) (r .device) window staging journal (r .used)
+toldHeard r window staging journal = told (verdictNumber (r .verdict)) (r .heard) (view (r .device)) window staging journal (r .used)
 
 -- staging is all zero after every run or service that is not refused by 1 to 8, and otherwise unchanged
 unfoldable pub stagingAfter : Asked → List ℕ → List ℕ

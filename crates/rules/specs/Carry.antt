@@ -5,7 +5,7 @@ use Prim.Native.Nat.{ℕ, suc, _+_, _-_, _/_, _%_, _^_}
 use lib.Dec.{eqb, leb}
 use lib.ListN.{length, drop, replicate}
 use Rattle.rules.specs.Act.{Act, Done, Endless, Stage, Fetch, Store, Ask, Put, Look, Space, window, table}
-use Rattle.rules.specs.declared.Device.{Device}
+use Rattle.rules.specs.State.{Device}
 use Rattle.rules.specs.With.{withTable}
 use Rattle.rules.specs.Fields.{bitsOf, holds, withField, settingOf, withNumber, fieldsOf}
 use Rattle.rules.specs.Bytes.{bytes, number, part, splice}

@@ -5,8 +5,7 @@ use mathlib.Core.Option.{Option, none, some}
 use Prim.Native.Nat.{ℕ, zero, suc, _+_, _-_, _*_, _/_, _%_, _^_}
 use lib.Dec.{ltb}
 use lib.ListN.{getD, set, replicate}
-use Rattle.rules.specs.declared.Controller.{Controller}
-use Rattle.rules.specs.declared.Device.{Device}
+use Rattle.rules.specs.State.{Controller, Device}
 use Rattle.rules.specs.Act.{Field, CR, ERQ, EEI, INT, ERR, KICK, DEFERRED, DEADLINE, LEVEL, STANDING, MASKS, FORCED, LINES, CONFIG, BUSY, MAJORS, PENDING, SOURCE, TAKEN, Setting, IGNORE}
 use Rattle.rules.specs.With.{withCr, withErq, withEei, withInt, withErr, withKick, withDeferred, withDeadline, withStanding, withLevel}
 use Rattle.rules.specs.With.{withBusy, withMajors, withPending, withControllers, withTaken}
@@ -91,7 +90,7 @@ bitsOf (SOURCE c s) = 8
 bitsOf (TAKEN i) = 64
 
 abbrev pub settingOf : Setting → Device → Bool
-settingOf IGNORE d = d .«ignore_masks»
+settingOf IGNORE d = d .ignore
 
 -- ---- by number
 

@@ -1,5 +1,7 @@
 pub mod Bytes
 pub mod Words
+pub mod State
+pub mod View
 pub mod With
 pub mod Act
 pub mod Fields

@@ -13,8 +13,7 @@ use Rattle.rules.specs.Words.{has, gain, lose, without}
 use Rattle.rules.specs.Minor.{START, DONE}
 use Rattle.rules.specs.Run.{requesting}
 use Rattle.rules.specs.Fields.{controller}
-use Rattle.rules.specs.declared.Controller.{Controller}
-use Rattle.rules.specs.declared.Device.{Device}
+use Rattle.rules.specs.State.{Controller, Device}
 
 -- ---- the blocks
 

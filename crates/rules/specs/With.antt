@@ -1,8 +1,7 @@
 -- A device, and a controller, with another value in one field. Assumes nothing.
 use mathlib.Core.List.{List}
 use Prim.Native.Nat.{ℕ}
-use Rattle.rules.specs.declared.Controller.{Controller}
-use Rattle.rules.specs.declared.Device.{Device}
+use Rattle.rules.specs.State.{Controller, Device}
 
 -- a device with other numbers, and all else of d
 abbrev numbered : Device → ℕ → ℕ → ℕ → ℕ → ℕ → ℕ → ℕ → ℕ → ℕ → ℕ → Device
@@ -23,7 +22,7 @@ numbered d erq eei int err kick deferred deadline standing cr level = record {
   controllers = d .controllers;
   cr = cr;
   level = level;
-  «ignore_masks» = d .«ignore_masks»;
+  ignore = d .ignore;
 }
 
 -- a device with other arrays, and all else of d
@@ -45,7 +44,7 @@ arrayed d table busy majors taken pending controllers = record {
   controllers = controllers;
   cr = d .cr;
   level = d .level;
-  «ignore_masks» = d .«ignore_masks»;
+  ignore = d .ignore;
 }
 
 abbrev pub withErq : Device → ℕ → Device

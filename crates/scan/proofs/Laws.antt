@@ -14,7 +14,7 @@ use Rattle.rules.specs.Bytes.{number, part, Bytes}
 use Rattle.rules.specs.Calls.{fresh}
 use Rattle.rules.specs.Carry.{Machine, legal, there}
 use Rattle.rules.specs.TakeBack.{kind, width, place, value, marked, soundStore, soundKind, sound, allSound}
-use Rattle.rules.specs.declared.Device.{Device}
+use Rattle.rules.specs.State.{Device}
 use Rattle.rules.proofs.BytesLaws.{length-part, value-lt, bytes-part, part-part}
 use Rattle.rules.proofs.Cut.{part-cut}
 use Rattle.journal.specs.Places.{holding}

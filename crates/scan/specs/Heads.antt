@@ -7,7 +7,7 @@ use lib.Dec.{ltb}
 use lib.ListN.{length}
 use Rattle.rules.specs.Carry.{Machine}
 use Rattle.rules.specs.TakeBack.{marked, kind, width, place, soundKind, allSound}
-use Rattle.rules.specs.declared.Device.{Device}
+use Rattle.rules.specs.State.{Device}
 use Rattle.scan.specs.declared.Head.{Head}
 use Rattle.scan.specs.declared.Head.the-variants.{Wide, Damaged}
 

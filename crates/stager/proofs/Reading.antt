@@ -14,7 +14,7 @@ use Rattle.rules.specs.Calls.{worldOf}
 use Rattle.rules.specs.Carry.{World, Out, no, go, bytesOf, fetched}
 use Rattle.rules.specs.Minor.{readUnit, readUnits, readSizes}
 use Rattle.rules.specs.Words.{wrap32, unitOf, moduloAdd}
-use Rattle.rules.specs.declared.Device.{Device}
+use Rattle.rules.specs.State.{Device}
 use Rattle.rules.proofs.BytesLaws.{part-back, length-part}
 use Rattle.rules.proofs.Cut.{splice-cut}
 use Rattle.rules.proofs.Steps.{andThen, go-bind, fetch-inside, fetch-outside}

@@ -11,7 +11,7 @@ use Rattle.rules.specs.Act.{Act, _>>=_, _>>_, done, stage}
 use Rattle.rules.specs.Calls.{worldOf}
 use Rattle.rules.specs.Carry.{World, Out, go}
 use Rattle.rules.specs.Minor.{readSizes, writeSizes, moveUnequal}
-use Rattle.rules.specs.declared.Device.{Device}
+use Rattle.rules.specs.State.{Device}
 use Rattle.rules.specs.declared.Refusal.{Refusal}
 use Rattle.rules.specs.declared.Refusal.the-variants as Refusal
 use Rattle.rules.proofs.Steps.{andThen, go-bind, stage-enough, stage-short}

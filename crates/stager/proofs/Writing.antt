@@ -11,7 +11,7 @@ use Rattle.rules.specs.Calls.{worldOf}
 use Rattle.rules.specs.Carry.{Out, go}
 use Rattle.rules.specs.Minor.{writeUnits, writeSizes}
 use Rattle.rules.specs.Words.{wrap32, unitOf, moduloAdd}
-use Rattle.rules.specs.declared.Device.{Device}
+use Rattle.rules.specs.State.{Device}
 use Rattle.flow.specs.Worlds.{walked}
 use Rattle.flow.specs.declared.Walk.the-variants as Walk
 use Rattle.stager.specs.Stages.{wrote}

@@ -7,7 +7,7 @@ use Prim.Native.Nat.{ℕ}
 use Rattle.rules.specs.Act.{Act}
 use Rattle.rules.specs.Calls.{worldOf, refusalNumber}
 use Rattle.rules.specs.Carry.{World, Out, ok, no, go}
-use Rattle.rules.specs.declared.Device.{Device}
+use Rattle.rules.specs.State.{Device}
 use Rattle.rules.specs.declared.Refusal.the-variants as Refusal
 use Rattle.mover.specs.Moves.{moved}
 use Rattle.mover.specs.declared.Moved.{Moved}

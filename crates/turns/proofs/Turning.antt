@@ -17,7 +17,7 @@ use Rattle.rules.specs.Fields.{bitsOf}
 use Rattle.rules.specs.Minor.{tcdOf, START}
 use Rattle.rules.specs.Run.{startLoop, startPasses, lineLoop, linePasses, requestLoop, requestPasses, serveLine, serve, turn, turns}
 use Rattle.rules.specs.Words.{has, gain, lose, lowest}
-use Rattle.rules.specs.declared.Device.{Device}
+use Rattle.rules.specs.State.{Device}
 use Rattle.rules.specs.declared.Refusal.{Refusal}
 use Rattle.rules.proofs.Steps.{putting, go-done, bind-ok, bind-no, then-ok, change-does}
 use Rattle.flow.specs.Worlds.{told}

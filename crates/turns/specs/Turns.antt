@@ -7,7 +7,7 @@ use Rattle.rules.specs.Act.{Act}
 use Rattle.rules.specs.Calls.{refusalNumber}
 use Rattle.rules.specs.Carry.{World, Out, ok, no, go}
 use Rattle.rules.specs.With.{withPending, withBusy, withDeferred, withDeadline}
-use Rattle.rules.specs.declared.Device.{Device}
+use Rattle.rules.specs.State.{Device}
 use Rattle.flow.specs.Worlds.{world}
 use Rattle.flow.specs.declared.Step.{Step}
 use Rattle.flow.specs.declared.Step.the-variants as Step

@@ -6,7 +6,7 @@ use mathlib.Core.Path.{_≡_, refl, sym, ap, _∙_}
 use Prim.Native.Nat.{ℕ}
 use borrow.Author.Tests.{eqb-false}
 use lib.ListN.{getD, replicate}
-use Rattle.rules.specs.declared.Device.{Device}
+use Rattle.rules.specs.State.{Device}
 use Rattle.rules.specs.Act.{CR, DEFERRED, KICK}
 use Rattle.rules.specs.Calls.{fresh, ToldRead, toldRead, afterRead}
 use Rattle.rules.specs.Carry.{endLine}
@@ -142,7 +142,7 @@ module _ (program : Device → ℕ → ℕ → ToldRead)
 -- ---- a fresh device: table, setting, and the fields by their numbers: 7 is the deadline, 16, 20 and 24 the masks
 
 pub fresh-fields : (ignore : Bool) → (fresh ignore .table ≡ replicate 2048 0)
-    × (fresh ignore .«ignore_masks» ≡ ignore)
+    × (fresh ignore .ignore ≡ ignore)
     × (fieldsOf (fresh ignore)
     ≡ replicate 7 0 ++ 0xFFFFFFFFFFFFFFFF ∷ replicate 8 0 ++ 0xFFFFFFFFFFFFFFFF ∷ replicate 3 0 ++ 0xFFFFFFFFFFFFFFFF ∷ replicate 3 0 ++ 0xFFFFFFFFFFFFFFFF ∷ replicate 743 0)
 unfolding computed

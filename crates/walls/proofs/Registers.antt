@@ -4,7 +4,7 @@ use mathlib.Core.List.{[], _∷_}
 use mathlib.Core.Path.{_≡_, refl}
 use Prim.Native.Nat.{_^_}
 use lib.ListN.{getD, replicate}
-use Rattle.rules.specs.declared.Device.{Device}
+use Rattle.rules.specs.State.{Device}
 use Rattle.rules.specs.Act.{ERQ, EEI, KICK, MASKS, FORCED, PENDING}
 use Rattle.rules.specs.Calls.{fresh, Told, toldRead, afterRead, deviceTold}
 use Rattle.rules.specs.Fields.{withField}

@@ -4,7 +4,7 @@ use mathlib.Core.List.{List, [], _∷_, _++_}
 use mathlib.Core.Path.{_≡_, refl}
 use Prim.Native.Nat.{ℕ, _-_, _^_}
 use lib.ListN.{replicate, getD}
-use Rattle.rules.specs.declared.Device.{Device}
+use Rattle.rules.specs.State.{Device}
 use Rattle.rules.specs.Act.{BUSY, DEADLINE, KICK}
 use Rattle.rules.specs.Calls.{fresh, deviceTold, windowTold}
 use Rattle.rules.specs.Fields.{withField}

@@ -5,7 +5,7 @@ use mathlib.Core.List.{List, [], _∷_, _++_}
 use Prim.Native.Nat.{ℕ, _-_, _*_, _^_}
 use lib.Count.{trailingZeros}
 use lib.ListN.{replicate}
-use Rattle.rules.specs.declared.Device.{Device}
+use Rattle.rules.specs.State.{Device}
 use Rattle.rules.specs.declared.Tcd.{Tcd}
 use Rattle.rules.specs.Act.{acts, Field, ERQ, KICK, PENDING}
 use Rattle.rules.specs.Bytes.{bytesRules}

@@ -7,7 +7,7 @@ use mathlib.Core.Path.{_≡_}
 use Prim.Native.Nat.{ℕ, _+_, _≤_, _<_}
 use lib.ListN.{getD}
 use Rattle.rules.specs.Calls.{Asked, Told, told, ToldRead, heardLevel, heardVector, after, afterBack, write, inputs, pending, run, service, ack, numberTold, deviceTold, windowTold}
-use Rattle.rules.specs.declared.Device.{Device}
+use Rattle.rules.specs.State.{Device}
 use Rattle.rules.proofs.Bench.{readNumber}
 
 -- ---- what a call is given and leaves

@@ -3,11 +3,12 @@ use Rattle.back.proofs.UndoLaws.{undo-turn, still-sound, undo-none, fie
 use Rattle.back.specs.Standing.{machine}
 use Rattle.rules.specs.TakeBack.{decodeAll}
 use Rattle.rules.specs.Carry.{undo}
+use Rattle.rules.specs.View.{view}
 use Rattle.rules.specs.With.{withTable}
 use lib.ListN.{length, drop}
 use native.Mathlib.Omega.{arith}
 use native.Mathlib.Nat.{sub-zero}
-use mathlib.Core.Path.{_≡_, refl, sym, _∙_}
+use mathlib.Core.Path.{_≡_, refl, sym, ap, _∙_}
 use mathlib.Core.Logic.{⊎-elim}
 use Prim.Native.Nat.{_-_, _≤_}
 use Rattle.back.proofs.undo_group.Statement.{statement}
@@ -15,7 +16,7 @@ use Rattle.back.proofs.undo_group.Tie as tie
 
 abbrev Inv-loop : tie.InvT-loop
 Inv-loop base window₀ stands from count table₀ e₀ done₀ window table e done =
-    (done ≤ count) × (undo base (decodeAll (count - done) (drop from stands)) (machine window (withTable e table)) ≡ undo base (decodeAll count (drop from stands)) (machine window₀ (withTable e₀ table₀))) × (length window ≡ length window₀)
+    (done ≤ count) × (undo base (decodeAll (count - done) (drop from stands)) (machine window (withTable (view e) table)) ≡ undo base (decodeAll count (drop from stands)) (machine window₀ (withTable (view e₀) table₀))) × (length window ≡ length window₀)
 
 abbrev μ-loop : tie.MeasureT-loop
 μ-loop base window₀ stands from count table₀ e₀ done₀ window table e done = count - done
@@ -55,7 +56,7 @@ loop-again c =
     let one = c .before .before .before .before .undo-store in
     let inv = c .before .before .before .before .before .before .before .before .loop .inv in
     let field = c .before .is-field .ensures in
-    (omega arith, undo-turn _ _ _ _ (omega arith) _ (omega arith) _ (both-undone _ _ _ _ _ _ (c .before .before .before .before .before .before .before .before .loop .e) {e = c .if1 .e} (one .ensures) (⊎-elim (λ p. field-so _ _ (sym field ∙ p .0 .taken) (p .2 ∙ p .1 .ensures)) (λ p. store-so _ _ (sym field ∙ p .0 .left) (p .1)) (c .if1 .came))) ∙ inv .1, omega (arith, one .kept .1 .0))
+    (omega arith, undo-turn _ _ _ _ (omega arith) _ (omega arith) _ (both-undone _ _ _ _ _ _ (view (c .before .before .before .before .before .before .before .before .loop .e)) {e = view (c .if1 .e)} (one .ensures) (⊎-elim (λ p. field-so _ _ (sym field ∙ p .0 .taken) (ap view (p .2) ∙ p .1 .ensures)) (λ p. store-so _ _ (sym field ∙ p .0 .left) (ap view (p .1))) (c .if1 .came))) ∙ inv .1, omega (arith, one .kept .1 .0))
 
 same-length : tie.Need-same-length Inv-loop μ-loop
 same-length c = omega arith

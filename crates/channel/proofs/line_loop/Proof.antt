@@ -5,7 +5,7 @@ use Rattle.rules.specs.Run.{lineLoop, linePasses}
 use borrow.Author.Needs.{needs}
 use Prim.Native.Nat.{_≤_, _^_}
 use lib.ListN.{length}
-use Rattle.rules.specs.declared.Device.{Device}
+use Rattle.rules.specs.State.{Device}
 use Rattle.rules.specs.Carry.{go}
 use Rattle.flow.specs.Worlds.{world}
 use Rattle.channel.proofs.line_loop.Statement.{statement}

@@ -4,7 +4,7 @@ use Rattle.rules.specs.Run.{startLoop, startPasses}
 use borrow.Author.Needs.{needs}
 use lib.ListN.{length}
 use mathlib.Core.Path.{_≡_, refl}
-use Rattle.rules.specs.declared.Device.{Device}
+use Rattle.rules.specs.State.{Device}
 use Rattle.rules.specs.Carry.{go}
 use Rattle.flow.specs.Worlds.{world}
 use Rattle.channel.proofs.start_loop.Statement.{statement}

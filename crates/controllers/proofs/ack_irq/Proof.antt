@@ -1,5 +1,5 @@
 -- `controllers::ack_irq` meets its contract. The act of the rules, with what the callees ensure of each controller. Assumes nothing.
-use Rattle.controllers.proofs.DeviceLaws.{acknowledge-answers}
+use Rattle.controllers.proofs.DeviceLaws.{acknowledge-held}
 use Rattle.rules.proofs.Typed.{sound}
 use borrow.Author.Needs.{needs}
 use Rattle.controllers.proofs.ack_irq.Statement.{statement}
@@ -32,7 +32,7 @@ returns c =
     let h1 = h2 .before .before in
     let h0 = h1 .before .before in
     let d = h0 .before .before in
-    acknowledge-answers (d .args .t1) (sound (d .args .t1) (d .good .0)) _ (h0 .heard-from .ensures .0) (h1 .heard-from2 .ensures .0) (h2 .heard-from3 .ensures .0) _ _ (c .hear .ensures)
+    acknowledge-held (d .args .t1) (sound (d .args .t1) (d .good .0)) _ (h0 .heard-from .ensures .0) (h1 .heard-from2 .ensures .0) (h2 .heard-from3 .ensures .0) _ _ (c .hear .ensures)
 
 pub ack-irq-spec : {M : Type 1} → statement M
 ack-irq-spec =

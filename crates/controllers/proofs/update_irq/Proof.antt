@@ -1,5 +1,6 @@
 -- `controllers::update_irq` meets its contract. The act of the rules, with what `relevelled` ensures. Assumes nothing.
 use Rattle.controllers.proofs.DeviceLaws.{relevel-does}
+use Rattle.rules.specs.View.{view}
 use Rattle.rules.proofs.Typed.{sound}
 use borrow.Author.Needs.{needs}
 use Rattle.controllers.proofs.update_irq.Statement.{statement}
@@ -12,7 +13,7 @@ returns : tie.Need-returns
 returns c =
     let made = c .before .relevelled .ensures in
     let s = c .before .before .before in
-    relevel-does (s .args .d) (sound (s .args .d) (s .good .0)) (made .0) (made .1) (search needs)
+    relevel-does (view (s .args .d)) (sound (s .args .d) (s .good .0)) (made .0) (made .1) (search needs)
 
 pub update-irq-spec : {M : Type 1} → statement M
 update-irq-spec = tie.close (tie.spec relevelled-requires returns)

@@ -1,6 +1,6 @@
 -- `controllers::with_inputs` meets its contract. The act of the rules, with what the callees ensure of each controller and of the requests.
 -- Assumes nothing.
-use Rattle.controllers.proofs.InputLaws.{inputs-does}
+use Rattle.controllers.proofs.InputLaws.{inputs-held}
 use Rattle.rules.proofs.Typed.{sound}
 use borrow.Author.Needs.{needs}
 use Rattle.controllers.proofs.with_inputs.Statement.{statement}
@@ -42,7 +42,7 @@ returns c =
     let g1 = g2 .before .before in
     let g0 = g1 .before .before in
     let d = g0 .before .before in
-    inputs-does _ _ _ _ (d .fits .standing .fits) (d .fits .l0 .fits) (d .fits .l1 .fits) (d .fits .l2 .fits) (d .args .t1) (sound (d .args .t1) (d .good .0)) _
+    inputs-held _ _ _ _ (d .fits .standing .fits) (d .fits .l0 .fits) (d .fits .l1 .fits) (d .fits .l2 .fits) (d .args .t1) (sound (d .args .t1) (d .good .0)) _
     (g0 .given .ensures) (g1 .given2 .ensures) (g2 .given3 .ensures) (c .requesting .ensures)
 
 pub with-inputs-spec : {M : Type 1} → statement M

@@ -1,4 +1,5 @@
 -- `dma::tcd_write` meets its contract. Assumes nothing.
+use Rattle.rules.specs.View.{view}
 use Rattle.dma.proofs.Laws.{table-wide, table-written}
 use Rattle.dma_read.proofs.Laws.{small}
 use Rattle.rules.proofs.Powers.{one-shl}
@@ -31,8 +32,8 @@ same-length c = search needs
 returns : tie.Need-returns
 returns c base staging w =
     let a = c .before .before .before .before .before .before .before .before .before .before .before .before .args in
-    table-written base staging (a .d) w (a .journal .now) (a .at) (a .off) (a .size) (a .v) (c .before .before .before .before .before .before .store-table .result) _ _ (a .d .majors) (omega (arith, c .before .before .starts .ensures .1, small _ (c .before .before .before .before .before .before .before .before .before .before .before .before .pre .0))) (c .before .before .starts .ensures .0) (one-shl 64 _ (omega (arith, small _ (c .before .before .before .before .before .before .before .before .before .before .before .before .pre .0))))
-    (c .with-kick .ensures _ base staging w) (c .before .put-back .ensures w _) (c .before .before .before .before .before .before .store-table .ensures base staging (a .d) w (a .d .majors)) (c .before .before .before .before .before .before .before .before .before .begun .ensures w (a .journal .now))
+    table-written base staging (view (a .d)) w (a .journal .now) (a .at) (a .off) (a .size) (a .v) (c .before .before .before .before .before .before .store-table .result) _ _ (a .d .majors) (omega (arith, c .before .before .starts .ensures .1, small _ (c .before .before .before .before .before .before .before .before .before .before .before .before .pre .0))) (c .before .before .starts .ensures .0) (one-shl 64 _ (omega (arith, small _ (c .before .before .before .before .before .before .before .before .before .before .before .before .pre .0))))
+    (c .with-kick .ensures _ base staging w) (c .before .put-back .ensures w _) (c .before .before .before .before .before .before .store-table .ensures base staging (view (a .d)) w (a .d .majors)) (c .before .before .before .before .before .before .before .before .before .begun .ensures w (a .journal .now))
 
 pub tcd-write-spec : {M : Type 1} → statement M
 tcd-write-spec =

@@ -1,4 +1,5 @@
 -- `dma_commands::flag_channels` meets its contract. Assumes nothing.
+use Rattle.rules.specs.View.{view}
 use Rattle.dma_commands.proofs.Laws.{through}
 use borrow.Author.Needs.{needs}
 use Rattle.dma_commands.proofs.flag_channels.Statement.{statement}
@@ -19,7 +20,7 @@ same-length c = search needs
 returns : tie.Need-returns
 returns c base staging w =
     let a = c .before .before .before .before .before .before .before .before .before .args in
-    through base staging _ (a .d) w (a .journal .now) (a .at) (c .put-back .ensures w _) (c .before .before .before .flag-each .ensures base staging (a .d) w (a .d .majors)) (c .before .before .before .before .before .before .begun .ensures w (a .journal .now))
+    through base staging _ (view (a .d)) w (a .journal .now) (a .at) (c .put-back .ensures w _) (c .before .before .before .flag-each .ensures base staging (view (a .d)) w (a .d .majors)) (c .before .before .before .before .before .before .begun .ensures w (a .journal .now))
 
 pub flag-channels-spec : {M : Type 1} → statement M
 flag-channels-spec =

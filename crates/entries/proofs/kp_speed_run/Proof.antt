@@ -1,6 +1,7 @@
 -- `entries::kp_speed_run` meets its contract. Assumes nothing.
 use Rattle.entries.proofs.Laws.{no-runs, runs-turn, runs-entry}
 use Rattle.entries.specs.Entry.{left as entry, oneRun, repeated}
+use Rattle.rules.specs.View.{view}
 use Rattle.image.proofs.Rows.{image-long}
 use denote.Ref.{now}
 use borrow.Author.Needs.{needs}
@@ -14,7 +15,7 @@ use Rattle.entries.proofs.kp_speed_run.Tie as tie
 
 abbrev Inv-loop : tie.InvT-loop
 Inv-loop image count time pace base window₀ staging₀ journal₀ d answer₀ left₀ window staging journal answer left =
-    (left ≤ count) × (repeated left (oneRun time pace base d) (entry answer image window staging journal) ≡ repeated count (oneRun time pace base d) (entry 0 image window₀ staging₀ journal₀)) × (length window ≡ length window₀) × (length staging ≡ length staging₀) × (length journal ≡ length journal₀)
+    (left ≤ count) × (repeated left (oneRun time pace base (view d)) (entry answer image window staging journal) ≡ repeated count (oneRun time pace base (view d)) (entry 0 image window₀ staging₀ journal₀)) × (length window ≡ length window₀) × (length staging ≡ length staging₀) × (length journal ≡ length journal₀)
 
 abbrev μ-loop : tie.MeasureT-loop
 μ-loop image count time pace base window₀ staging₀ journal₀ d answer₀ left₀ window staging journal answer left = left

@@ -11,7 +11,7 @@ use lib.Seq.{take-suc-set}
 use borrow.Author.Needs.{needs}
 use Rattle.rules.specs.Act.{Act, _>>=_}
 use Rattle.rules.specs.Minor.{gather}
-use Rattle.rules.specs.declared.Device.{Device}
+use Rattle.rules.specs.State.{Device}
 use Rattle.flow.proofs.Laws.{stays-so, told-so}
 use Rattle.flow.specs.Worlds.{told, on}
 use Rattle.journal.proofs.Laws.{at-fits}

@@ -1,5 +1,6 @@
 -- `image::put_device` meets its contract. Assumes nothing.
 use Rattle.image.proofs.Rows.{image-laid}
+use Rattle.rules.specs.View.{view}
 use Rattle.rules.proofs.Typed.{sound, table-size}
 use native.Mathlib.Omega.{arith}
 use borrow.Author.Needs.{needs}
@@ -33,7 +34,7 @@ same-length c = search needs
 returns : tie.Need-returns
 returns c =
     let a = c .before .before .before .before .before .before .before .before .before .before .before .before .before .before .before .before .before .before .before .before .before .before .before .before .before .before .before in
-    image-laid (a .args .d) (sound (a .args .d) (a .good .1 .0)) (table-size (a .args .d) (a .good .1 .0)) _ _ _ _ _ _ _ (a .pre) (c .before .before .before .before .before .before .before .before .before .before .before .before .before .before .before .before .before .before .before .before .before .before .put-table .ensures) (c .before .before .before .before .before .before .before .before .before .before .before .before .before .before .before .before .before .before .put-flag .ensures) (c .before .before .before .before .before .before .before .before .before .before .before .before .before .before .put-head .ensures) (c .before .before .before .before .before .before .before .before .before .before .put-channels .ensures) (c .before .before .before .before .before .before .put-levels .ensures) (c .before .before .put-taken .ensures)
+    image-laid (view (a .args .d)) (sound (a .args .d) (a .good .1 .0)) (table-size (a .args .d) (a .good .1 .0)) _ _ _ _ _ _ _ (a .pre) (c .before .before .before .before .before .before .before .before .before .before .before .before .before .before .before .before .before .before .before .before .before .before .put-table .ensures) (c .before .before .before .before .before .before .before .before .before .before .before .before .before .before .before .before .before .before .put-flag .ensures) (c .before .before .before .before .before .before .before .before .before .before .before .before .before .before .put-head .ensures) (c .before .before .before .before .before .before .before .before .before .before .put-channels .ensures) (c .before .before .before .before .before .before .put-levels .ensures) (c .before .before .put-taken .ensures)
 
 pub put-device-spec : {M : Type 1} → statement M
 put-device-spec =

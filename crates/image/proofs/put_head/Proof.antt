@@ -1,5 +1,6 @@
 -- `image::put_head` meets its contract. Assumes nothing.
 use Rattle.image.proofs.Rows.{head-laid, narrow}
+use Rattle.rules.specs.View.{view}
 use Rattle.rules.proofs.Typed.{sound}
 use native.Mathlib.Omega.{arith}
 use borrow.Author.Needs.{needs}
@@ -16,7 +17,7 @@ controller-at-requires-3 : tie.Need-controller-at-requires-3
 controller-at-requires-3 c κs = search needs
 
 cast-head : tie.Need-cast-head
-cast-head c = let a = c .before .before .before .before .before in omega (arith, narrow (a .args .d) (sound (a .args .d) (a .good .1 .0)))
+cast-head c = let a = c .before .before .before .before .before in omega (arith, narrow (view (a .args .d)) (sound (a .args .d) (a .good .1 .0)))
 
 array-write-head : tie.Need-array-write-head
 array-write-head c = search needs
@@ -43,7 +44,7 @@ array-write-head-8 : tie.Need-array-write-head-8
 array-write-head-8 c = search needs
 
 cast-head-2 : tie.Need-cast-head-2
-cast-head-2 c = let a = c .before .before .before .before .before .before in omega (arith, narrow (a .args .d) (sound (a .args .d) (a .good .1 .0)))
+cast-head-2 c = let a = c .before .before .before .before .before .before in omega (arith, narrow (view (a .args .d)) (sound (a .args .d) (a .good .1 .0)))
 
 array-write-head-9 : tie.Need-array-write-head-9
 array-write-head-9 c = search needs
@@ -108,7 +109,7 @@ same-length c = search needs
 returns : tie.Need-returns
 returns c =
     let a = c .before .before .before .before .before .before .before .before .before .before .before .before .before .before in
-    head-laid (a .args .d) _ _ _ (c .before .before .before .before .before .before .before .before .before .before .before .before .controller-at .ensures .0) (c .before .before .before .before .before .before .before .before .before .before .before .controller-at2 .ensures .0) (c .before .before .before .before .before .before .before .before .before .before .controller-at3 .ensures .0) (c .before .before .put-wides .ensures)
+    head-laid (view (a .args .d)) _ _ _ (c .before .before .before .before .before .before .before .before .before .before .before .before .controller-at .ensures .0) (c .before .before .before .before .before .before .before .before .before .before .before .controller-at2 .ensures .0) (c .before .before .before .before .before .before .before .before .before .before .controller-at3 .ensures .0) (c .before .before .put-wides .ensures)
 
 pub put-head-spec : {M : Type 1} → statement M
 put-head-spec =

@@ -1,5 +1,6 @@
 -- `image::put_levels` meets its contract. Assumes nothing.
 use Rattle.image.proofs.Rows.{levels-laid, laid-as}
+use Rattle.rules.specs.View.{view}
 use Rattle.rules.proofs.Typed.{sound}
 use borrow.Author.Needs.{needs}
 use Rattle.image.proofs.put_levels.Statement.{statement}
@@ -44,7 +45,7 @@ same-length c = search needs
 returns : tie.Need-returns
 returns c =
     let a = c .before .before .before .before .before .before .before .before .before .before .before .before .before .before .before .before .before .before .before .before .before .before .before .before .before .before .before in
-    levels-laid (a .args .d) (sound (a .args .d) (a .good .1 .0)) _ _ _ _ _ (laid-as _ _ _ (c .before .before .before .before .before .before .before .before .before .before .before .before .before .before .before .before .before .put-bytes .ensures) (c .before .before .before .before .before .before .before .before .before .before .before .before .before .before .before .before .before .before .before .before .before .before .before .before .before .controller-at .ensures .0)) (laid-as _ _ _ (c .before .before .before .before .before .before .before .before .before .before .before .before .put-bytes2 .ensures) (c .before .before .before .before .before .before .before .before .before .before .before .before .before .before .before .before .before .before .before .before .before .before .before .controller-at2 .ensures .0)) (laid-as _ _ _ (c .before .before .before .before .before .before .before .put-bytes3 .ensures) (c .before .before .before .before .before .before .before .before .before .before .before .before .before .before .before .before .before .before .before .before .before .controller-at3 .ensures .0)) (c .before .before .put-wides .ensures)
+    levels-laid (view (a .args .d)) (sound (a .args .d) (a .good .1 .0)) _ _ _ _ _ (laid-as _ _ _ (c .before .before .before .before .before .before .before .before .before .before .before .before .before .before .before .before .before .put-bytes .ensures) (c .before .before .before .before .before .before .before .before .before .before .before .before .before .before .before .before .before .before .before .before .before .before .before .before .before .controller-at .ensures .0)) (laid-as _ _ _ (c .before .before .before .before .before .before .before .before .before .before .before .before .put-bytes2 .ensures) (c .before .before .before .before .before .before .before .before .before .before .before .before .before .before .before .before .before .before .before .before .before .before .before .controller-at2 .ensures .0)) (laid-as _ _ _ (c .before .before .before .before .before .before .before .put-bytes3 .ensures) (c .before .before .before .before .before .before .before .before .before .before .before .before .before .before .before .before .before .before .before .before .before .controller-at3 .ensures .0)) (c .before .before .put-wides .ensures)
 
 pub put-levels-spec : {M : Type 1} → statement M
 put-levels-spec =

@@ -1,5 +1,6 @@
 -- `image::put_taken` meets its contract. Assumes nothing.
 use Rattle.image.proofs.Rows.{taken-laid, taken-long}
+use Rattle.rules.specs.View.{view}
 use Rattle.rules.proofs.Typed.{sound}
 use native.Mathlib.Omega.{arith}
 use mathlib.Core.List.{[]}
@@ -11,7 +12,7 @@ slice-aggregate-put-wides : tie.Need-slice-aggregate-put-wides
 slice-aggregate-put-wides c = search needs
 
 put-wides-requires : tie.Need-put-wides-requires
-put-wides-requires c κs = let a = c .before .before .before .before in omega (arith, taken-long (a .args .d) (sound (a .args .d) (a .good .1 .0)))
+put-wides-requires c κs = let a = c .before .before .before .before in omega (arith, taken-long (view (a .args .d)) (sound (a .args .d) (a .good .1 .0)))
 
 slice-aggregate-put-wides-2 : tie.Need-slice-aggregate-put-wides-2
 slice-aggregate-put-wides-2 c = search needs
@@ -25,7 +26,7 @@ same-length c = search needs
 returns : tie.Need-returns
 returns c =
     let a = c .before .before .before .before .before .before .before .before .before .before .before .before in
-    taken-laid (a .args .d) (sound (a .args .d) (a .good .1 .0)) _ _ _ [] [] (c .before .before .before .before .before .before .before .put-wides .ensures) (c .before .before .put-wides2 .ensures)
+    taken-laid (view (a .args .d)) (sound (a .args .d) (a .good .1 .0)) _ _ _ [] [] (c .before .before .before .before .before .before .before .put-wides .ensures) (c .before .before .put-wides2 .ensures)
 
 pub put-taken-spec : {M : Type 1} → statement M
 put-taken-spec =

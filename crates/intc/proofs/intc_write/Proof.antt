@@ -1,6 +1,6 @@
 -- `intc::intc_write` meets its contract. What `controller_written` ensures, of the device around the controller. Assumes nothing.
 use native.Mathlib.Omega.{arith}
-use Rattle.intc.proofs.WriteLaws.{written-device}
+use Rattle.intc.proofs.WriteLaws.{written-held}
 use Rattle.intc.specs.Writes.{writeTo}
 use Rattle.rules.proofs.Typed.{sound}
 use borrow.Author.Needs.{needs}
@@ -25,7 +25,7 @@ element-set-from-k c = search needs
 returns : tie.Need-returns
 returns c =
     let st = c .before .before .before in
-    written-device (writeTo (st .args .off) (st .args .size) (st .args .v)) (st .args .c) (st .args .t1) _ _ (omega (arith, sound (st .args .t1) (st .good .0) .three)) (c .before .controller-written .ensures)
+    written-held (writeTo (st .args .off) (st .args .size) (st .args .v)) (st .args .c) (st .args .t1) _ _ (omega (arith, sound (st .args .t1) (st .good .0) .three)) (c .before .controller-written .ensures)
 
 pub intc-write-spec : {M : Type 1} → statement M
 intc-write-spec =

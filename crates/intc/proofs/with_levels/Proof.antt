@@ -2,6 +2,7 @@
 -- stands above them. The measure is `i`. Assumes nothing.
 use Rattle.intc.proofs.WriteLaws.{levels-start, levels-turn, levels-end}
 use native.Mathlib.Omega.{arith}
+use Rattle.rules.specs.View.{viewController}
 use Rattle.rules.specs.With.{withLevels}
 use Rattle.rules.specs.Bytes.{bytes, splice}
 use borrow.Author.Needs.{needs}
@@ -11,14 +12,14 @@ use Rattle.intc.proofs.with_levels.Statement.{statement}
 use Rattle.intc.proofs.with_levels.Tie as tie
 
 abbrev Inv-loop : tie.InvT-loop
-Inv-loop s size v e₀ rest₀ i₀ e rest i = (i ≤ size) × (rest ≡ v / 256 ^ (size - i)) × (e ≡ withLevels e₀ (splice (e₀ .levels) (s + i) (bytes (size - i) v)))
+Inv-loop s size v e₀ rest₀ i₀ e rest i = (i ≤ size) × (rest ≡ v / 256 ^ (size - i)) × (viewController e ≡ withLevels (viewController e₀) (splice (e₀ .levels) (s + i) (bytes (size - i) v)))
 
 abbrev μ-loop : tie.MeasureT-loop
 μ-loop s size v e₀ rest₀ i₀ e rest i = i
 
 loop-holds : tie.Need-loop-holds Inv-loop μ-loop
 loop-holds c =
-    let start = levels-start (c .args .k) (c .args .s) (c .args .v) (c .args .size) in
+    let start = levels-start (viewController (c .args .k)) (c .args .s) (c .args .v) (c .args .size) in
     (omega arith, start .0, start .1)
 
 sub-i : tie.Need-sub-i Inv-loop μ-loop
@@ -39,7 +40,7 @@ loop-less c = search needs
 loop-again : tie.Need-loop-again Inv-loop μ-loop
 loop-again c =
     let l = c .before .before .loop in
-    let turn = levels-turn (c .before .before .before .args .k) (c .before .before .before .args .s) _ _ (l .i) (c .before .loop-test .taken) (l .inv .0) (l .inv .1) (l .inv .2) (c .with-level .ensures) in
+    let turn = levels-turn (viewController (c .before .before .before .args .k)) (c .before .before .before .args .s) _ _ (l .i) (c .before .loop-test .taken) (l .inv .0) (l .inv .1) (l .inv .2) (c .with-level .ensures) in
     (omega arith, turn .0, turn .1)
 
 returns : tie.Need-returns Inv-loop μ-loop

@@ -1,4 +1,5 @@
 -- `registers::acknowledge` meets its contract. Assumes nothing.
+use Rattle.rules.specs.View.{view}
 use Rattle.registers.proofs.Laws.{used-fits, accepts, asked-after, heard-made}
 use Rattle.registers.specs.Asked.{asked}
 use Rattle.acting.proofs.Laws.{spared}
@@ -19,7 +20,7 @@ returns : tie.Need-returns
 unfolding wrong check stagingAfter asked
 returns c base w staging =
     let a = c .before .before .before .args in
-    rw (← asked-after (ack (a .ipl)) base (a .d) w staging (a .journal .now) (a .used) refl, sym (c .before .bad-journal .ensures) ∙ c .if1 .taken)
+    rw (← asked-after (ack (a .ipl)) base (view (a .d)) w staging (a .journal .now) (a .used) refl, sym (c .before .bad-journal .ensures) ∙ c .if1 .taken)
 
 ack-irq-requires : tie.Need-ack-irq-requires
 ack-irq-requires c κs = search needs
@@ -27,7 +28,7 @@ ack-irq-requires c κs = search needs
 finish-requires : tie.Need-finish-requires
 unfolding Answers
 finish-requires c κs =
-    (omega arith, used-fits _ _ (c .before .before .before .before .bad-journal .ensures) (c .before .before .before .if1 .left), spared _ _ _ (c .before .before .before .before .before .before .args .d) [] [] _ (c .before .before .before .before .before .before .good .0) (acknowledge-spares _ refl) (c .before .before .ack-irq .ensures 0 0 [] [] []))
+    (omega arith, used-fits _ _ (c .before .before .before .before .bad-journal .ensures) (c .before .before .before .if1 .left), spared _ _ _ (c .before .before .before .before .before .before .args .d) (c .before .before .ack-irq .result .device) [] [] _ (c .before .before .before .before .before .before .good .0) (acknowledge-spares _ refl) refl (c .before .before .ack-irq .ensures 0 0 [] [] []))
 
 heard-by-requires : tie.Need-heard-by-requires
 heard-by-requires c κs = search needs
@@ -40,9 +41,9 @@ unfolding wrong check stagingAfter actOf
 returns-2 c base w staging =
     let a = c .before .before .before .before .before .before .before .before .before .before .before .args in
     rw (c .heard-by .ensures)
-    (accepts _ base (a .d) w staging (a .journal .now) (a .used) (rw (sym (c .before .before .before .before .before .before .before .before .before .bad-journal .ensures) ∙ c .before .before .before .before .before .before .before .before .if1 .left))
-    (heard-made base _ (a .d) _ w staging (a .journal .now) (a .used) _ (c .before .before .before .before .before .before .before .ack-irq .ensures) (c .before .before .before .before .finish .ensures w staging (a .journal .now) _ (record { front = refl; long = refl })))
-    ∙ asked-after (ack (a .ipl)) base (a .d) w staging (a .journal .now) (a .used) refl)
+    (accepts _ base (view (a .d)) w staging (a .journal .now) (a .used) (rw (sym (c .before .before .before .before .before .before .before .before .before .bad-journal .ensures) ∙ c .before .before .before .before .before .before .before .before .if1 .left))
+    (heard-made base _ (view (a .d)) _ w staging (a .journal .now) (a .used) _ (c .before .before .before .before .before .before .before .ack-irq .ensures) (c .before .before .before .before .finish .ensures w staging (a .journal .now) _ (record { front = refl; long = refl })))
+    ∙ asked-after (ack (a .ipl)) base (view (a .d)) w staging (a .journal .now) (a .used) refl)
 
 pub acknowledge-spec : {M : Type 1} → statement M
 acknowledge-spec =

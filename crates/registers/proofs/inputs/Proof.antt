@@ -1,4 +1,5 @@
 -- `registers::inputs` meets its contract. Assumes nothing.
+use Rattle.rules.specs.View.{view}
 use Rattle.registers.proofs.Laws.{used-fits, refuses, accepts, asked-after}
 use Rattle.rules.proofs.Spares.{inputs-spare}
 use Rattle.rules.specs.declared.Refusal.the-variants as Refusal
@@ -19,7 +20,7 @@ unfolding wrong check stagingAfter
 returns c base w staging =
     let a = c .before .before .before .before .args in
     refuses _ base (a .d) w staging _ (a .used) Refusal.Journal (c .refused .ensures) (rw (sym (c .before .before .bad-journal .ensures) ∙ c .before .if1 .taken))
-    ∙ asked-after (inputs (a .standing) (a .lines0) (a .lines1) (a .lines2)) base (a .d) w staging _ (a .used) refl
+    ∙ asked-after (inputs (a .standing) (a .lines0) (a .lines1) (a .lines2)) base (view (a .d)) w staging _ (a .used) refl
 
 with-inputs-requires : tie.Need-with-inputs-requires
 with-inputs-requires c κs = search needs
@@ -35,8 +36,8 @@ returns-2 : tie.Need-returns-2
 unfolding wrong check stagingAfter actOf
 returns-2 c base w staging =
     let a = c .before .before .before .before .before .before .before .before .args in
-    accepts _ base (a .d) w staging _ (a .used) (rw (sym (c .before .before .before .before .before .before .bad-journal .ensures) ∙ c .before .before .before .before .before .if1 .left)) (c .before .before .stored .ensures _ (c .before .before .before .before .with-inputs .ensures) base w staging)
-    ∙ asked-after (inputs (a .standing) (a .lines0) (a .lines1) (a .lines2)) base (a .d) w staging _ (a .used) refl
+    accepts _ base (view (a .d)) w staging _ (a .used) (rw (sym (c .before .before .before .before .before .before .bad-journal .ensures) ∙ c .before .before .before .before .before .if1 .left)) (c .before .before .stored .ensures _ (c .before .before .before .before .with-inputs .ensures) base w staging)
+    ∙ asked-after (inputs (a .standing) (a .lines0) (a .lines1) (a .lines2)) base (view (a .d)) w staging _ (a .used) refl
 
 pub inputs-spec : {M : Type 1} → statement M
 inputs-spec =

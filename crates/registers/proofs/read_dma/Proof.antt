@@ -1,4 +1,5 @@
 -- `registers::read_dma` meets its contract. Assumes nothing.
+use Rattle.rules.specs.View.{view}
 use Rattle.registers.proofs.Laws.{fair, end-there}
 use Rattle.registers.specs.Asked.{readSo}
 use Rattle.rules.specs.Calls.{check}
@@ -14,7 +15,7 @@ returns : tie.Need-returns
 unfolding readSo check
 returns c =
     let p = sym (c .before .past-end .ensures) ∙ c .if1 .taken in
-    rw (end-there _ _ (c .before .before .args .d) p, p)
+    rw (end-there _ _ (view (c .before .before .args .d)) p, p)
 
 edma-read-requires : tie.Need-edma-read-requires
 edma-read-requires c κs = fair _ _ (c .before .before .pre .1) (sym (c .before .past-end .ensures) ∙ c .if1 .left)

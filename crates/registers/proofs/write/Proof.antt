@@ -1,4 +1,5 @@
 -- `registers::write` meets its contract. Assumes nothing.
+use Rattle.rules.specs.View.{view}
 use Rattle.registers.proofs.Laws.{write-no, wrong-size, wrong-address, write-dma-after, write-controller-after}
 use Rattle.rules.specs.declared.Refusal.the-variants as Refusal
 use Rattle.rules.specs.Registers.{blockOf}
@@ -20,7 +21,7 @@ returns : tie.Need-returns
 returns c base w staging =
     let a = c .before .before .before .before .args in
     write-no (a .address) (a .size) (a .value) base (a .d) w staging (a .journal .now) (a .used) Refusal.Size (c .refused .ensures)
-    (wrong-size (a .address) (a .size) (a .value) base (a .d) w staging (a .journal .now) (a .used) (sym (c .before .before .bad-size .ensures) ∙ c .before .if1 .taken))
+    (wrong-size (a .address) (a .size) (a .value) base (view (a .d)) w staging (a .journal .now) (a .used) (sym (c .before .before .bad-size .ensures) ∙ c .before .if1 .taken))
 
 in-blocks-requires : tie.Need-in-blocks-requires
 in-blocks-requires c κs = search needs
@@ -32,7 +33,7 @@ returns-2 : tie.Need-returns-2
 returns-2 c base w staging =
     let a = c .before .before .before .before .before .before .args in
     write-no (a .address) (a .size) (a .value) base (a .d) w staging (a .journal .now) (a .used) Refusal.Address (c .refused2 .ensures)
-    (wrong-address (a .address) (a .size) (a .value) base (a .d) w staging (a .journal .now) (a .used) (sym (c .before .before .before .before .bad-size .ensures) ∙ c .before .before .before .if1 .left) (sym (c .before .before .in-blocks .ensures) ∙ not-true _ (c .before .if2 .taken)))
+    (wrong-address (a .address) (a .size) (a .value) base (view (a .d)) w staging (a .journal .now) (a .used) (sym (c .before .before .before .before .bad-size .ensures) ∙ c .before .before .before .if1 .left) (sym (c .before .before .in-blocks .ensures) ∙ not-true _ (c .before .if2 .taken)))
 
 block-of-requires : tie.Need-block-of-requires
 block-of-requires c κs = sym (c .before .in-blocks .ensures) ∙ not-false _ (c .if2 .left)
@@ -56,7 +57,7 @@ returns-3 : tie.Need-returns-3
 returns-3 c base w staging =
     let a = c .before .before .before .before .before .before .before .before .before .before .before .args in
     c .before .before .write-dma .ensures base w staging
-    ∙ write-dma-after (a .address) (a .size) (a .value) base (a .d) w staging (a .journal .now) (a .used) (sym (c .before .before .before .before .before .before .before .before .before .bad-size .ensures) ∙ c .before .before .before .before .before .before .before .before .if1 .left) (sym (c .before .before .before .before .before .before .before .in-blocks .ensures) ∙ not-false _ (c .before .before .before .before .before .before .if2 .left)) (sym (c .before .before .before .before .before .block-of .ensures .0) ∙ c .before .before .before .before .match .keys1)
+    ∙ write-dma-after (a .address) (a .size) (a .value) base (view (a .d)) w staging (a .journal .now) (a .used) (sym (c .before .before .before .before .before .before .before .before .before .bad-size .ensures) ∙ c .before .before .before .before .before .before .before .before .if1 .left) (sym (c .before .before .before .before .before .before .before .in-blocks .ensures) ∙ not-false _ (c .before .before .before .before .before .before .if2 .left)) (sym (c .before .before .before .before .before .block-of .ensures .0) ∙ c .before .before .before .before .match .keys1)
 
 same-length-2 : tie.Need-same-length-2
 same-length-2 c = search needs
@@ -67,7 +68,7 @@ returns-4 c base w staging =
     let k = c .before .before .before .before .before .block-of .result in
     let z : blockOf (a .address) ≡ suc (k - 1) = omega (arith, c .before .before .before .before .before .block-of .ensures .0, c .before .before .before .before .match .rest) in
     c .before .before .write-controller .ensures base w staging
-    ∙ write-controller-after (a .address) (a .size) (a .value) base (a .d) w staging (a .journal .now) (a .used) (sym (c .before .before .before .before .before .before .before .before .before .bad-size .ensures) ∙ c .before .before .before .before .before .before .before .before .if1 .left) (sym (c .before .before .before .before .before .before .before .in-blocks .ensures) ∙ not-false _ (c .before .before .before .before .before .before .if2 .left)) (k - 1) z
+    ∙ write-controller-after (a .address) (a .size) (a .value) base (view (a .d)) w staging (a .journal .now) (a .used) (sym (c .before .before .before .before .before .before .before .before .before .bad-size .ensures) ∙ c .before .before .before .before .before .before .before .before .if1 .left) (sym (c .before .before .before .before .before .before .before .in-blocks .ensures) ∙ not-false _ (c .before .before .before .before .before .before .if2 .left)) (k - 1) z
 
 pub write-spec : {M : Type 1} → statement M
 write-spec =

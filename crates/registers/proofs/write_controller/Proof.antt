@@ -1,4 +1,5 @@
 -- `registers::write_controller` meets its contract. Assumes nothing.
+use Rattle.rules.specs.View.{view}
 use Rattle.registers.proofs.Laws.{unknown, known, used-fits, in-word, part-there, no-register, crossing, bad-group, nothing-wrong, refuses, accepts}
 use Rattle.dma_read.proofs.Laws.{small}
 use Rattle.rules.proofs.Spares.{controller-spares}
@@ -55,7 +56,7 @@ same-length c = search needs
 returns-4 : tie.Need-returns-4
 returns-4 c base w staging =
     let a = c .before .before .before .before .before .before .before .before .before .before .before .before .args in
-    accepts _ base (a .d) w staging _ (a .used)
+    accepts _ base (view (a .d)) w staging _ (a .used)
     (nothing-wrong _ _ _ (known (c .before .before .before .before .before .before .before .before .intc-write .ensures .tells) (not-false _ (c .before .before .before .before .before .before .if2 .left))) (sym (c .before .before .before .before .before .before .before .before .before .before .past-part .ensures) ∙ c .before .before .before .before .before .before .before .before .before .if1 .left) (sym (c .before .before .before .before .before .bad-journal .ensures) ∙ c .before .before .before .before .if3 .left))
     (c .before .before .stored .ensures _ (c .before .before .before .before .before .before .before .before .intc-write .ensures .does) base w staging)
 

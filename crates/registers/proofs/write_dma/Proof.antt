@@ -1,4 +1,5 @@
 -- `registers::write_dma` meets its contract. Assumes nothing.
+use Rattle.rules.specs.View.{view}
 use Rattle.registers.proofs.Laws.{unknown, known, used-fits, fair, no-register, crossing, bad-group, nothing-wrong, refuses, accepts}
 use Rattle.rules.proofs.Spares.{dma-spares}
 use Rattle.rules.specs.declared.Refusal.the-variants as Refusal
@@ -57,7 +58,7 @@ same-length c = search needs
 returns-4 : tie.Need-returns-4
 returns-4 c base w staging =
     let a = c .before .before .before .before .before .before .before .before .before .before .before .before .before .before .before .args in
-    accepts _ base (a .d) w staging _ (a .used)
+    accepts _ base (view (a .d)) w staging _ (a .used)
     (nothing-wrong _ _ _ (known (c .before .before .before .before .before .before .before .before .before .before .before .before .before .edma-known .ensures (a .value)) (not-false _ (c .before .before .before .before .before .before .before .before .before .before .before .before .if1 .left))) (sym (c .before .before .before .before .before .before .before .before .before .before .before .past-end .ensures) ∙ c .before .before .before .before .before .before .before .before .before .before .if2 .left) (sym (c .before .before .before .before .before .before .before .before .before .bad-journal .ensures) ∙ c .before .before .before .before .before .before .before .before .if3 .left))
     (c .before .before .settle .ensures _ base w staging (a .journal .now) (used-fits _ _ (c .before .before .before .before .before .before .before .before .before .bad-journal .ensures) (c .before .before .before .before .before .before .before .before .if3 .left)) (c .before .before .before .before .before .before .edma-write .ensures base _ w))
 

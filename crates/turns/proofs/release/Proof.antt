@@ -7,7 +7,7 @@ use Prim.Native.Nat.{ℕ, _-_, _≤_}
 use Rattle.rules.specs.Carry.{go}
 use Rattle.rules.specs.Run.{release}
 use Rattle.rules.specs.With.{withBusy}
-use Rattle.rules.specs.declared.Device.{Device}
+use Rattle.rules.specs.State.{Device}
 use Rattle.flow.specs.Does.{beside}
 use Rattle.turns.proofs.release.Statement.{statement}
 use Rattle.turns.proofs.release.Tie as tie

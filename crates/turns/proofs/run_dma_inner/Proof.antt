@@ -5,7 +5,7 @@ use lib.ListN.{length}
 use mathlib.Core.Path.{_≡_, refl}
 use Rattle.rules.specs.Carry.{go}
 use Rattle.rules.specs.Run.{turns, runTurns, runAll}
-use Rattle.rules.specs.declared.Device.{Device}
+use Rattle.rules.specs.State.{Device}
 use Rattle.turns.specs.Turns.{turning}
 use Rattle.turns.proofs.run_dma_inner.Statement.{statement}
 use Rattle.turns.proofs.run_dma_inner.Tie as tie

@@ -1,0 +1,36 @@
+-- What documents 01 and 02 speak of: a controller, and a device. Code holds a device as it likes; `View` says what that stands for. Assumes nothing.
+use mathlib.Core.Bool.{Bool}
+use mathlib.Core.List.{List}
+use Prim.Native.Nat.{ℕ}
+
+-- its masks (IMR), forced sources (FRC), lines, ICONFIG and the level bytes of its 64 sources
+pub record Controller : Type 0 where
+  pub masks : ℕ
+  pub forced : ℕ
+  pub lines : ℕ
+  pub config : ℕ
+  pub levels : List ℕ
+
+pub record Device : Type 0 where
+  pub cr : ℕ
+  pub erq : ℕ
+  pub eei : ℕ
+  pub int : ℕ
+  pub err : ℕ
+  pub kick : ℕ
+  pub deferred : ℕ
+  pub deadline : ℕ
+  pub level : ℕ
+  pub standing : ℕ
+  -- the three controllers
+  pub controllers : List Controller
+  -- by channel: busy until, majors, pending counts
+  pub busy : List ℕ
+  pub majors : List ℕ
+  pub pending : List ℕ
+  -- how often each vector was taken, from vector 64 on
+  pub taken : List ℕ
+  -- the descriptor table
+  pub table : List ℕ
+  -- the setting: masks are ignored
+  pub ignore : Bool

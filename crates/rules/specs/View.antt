@@ -1,0 +1,29 @@
+-- What a device as code holds it stands for. Today the two are alike, field by field. Assumes nothing.
+use mathlib.Core.List.{map}
+use Rattle.rules.specs.State.{Controller, Device}
+use Rattle.rules.specs.declared.Controller.{Controller as HeldController}
+use Rattle.rules.specs.declared.Device.{Device as HeldDevice}
+
+abbrev pub viewController : HeldController → Controller
+viewController k = record { masks = k .masks; forced = k .forced; lines = k .lines; config = k .config; levels = k .levels }
+
+abbrev pub view : HeldDevice → Device
+view d = record {
+  cr = d .cr;
+  erq = d .erq;
+  eei = d .eei;
+  int = d .int;
+  err = d .err;
+  kick = d .kick;
+  deferred = d .deferred;
+  deadline = d .deadline;
+  level = d .level;
+  standing = d .standing;
+  controllers = map viewController (d .controllers);
+  busy = d .busy;
+  majors = d .majors;
+  pending = d .pending;
+  taken = d .taken;
+  table = d .table;
+  ignore = d .«ignore_masks»;
+}
