@@ -10,7 +10,7 @@ use lib.Seq.{take-all, take-take, drop-length, length-take-le}
 use borrow.Author.Tests.{leb-true, leb-false}
 use Rattle.rules.specs.Act.{Act, done, _>>_}
 use Rattle.rules.specs.Calls.{Told, told, toldActed, toldAfter, refusalNumber, worldOf, levelled}
-use Rattle.rules.specs.Carry.{World, Out, unmade, ok, no, cleared, go, leave, perform}
+use Rattle.rules.specs.Carry.{World, Out, unmade, ok, no, cleared, go, leave, perform, Lent, lending}
 use Rattle.rules.specs.Fields.{fieldsOf}
 use Rattle.rules.specs.Lines.{relevel}
 use Rattle.rules.specs.declared.Acted.{Acted}
@@ -90,11 +90,11 @@ world-least e w j at {n} m = by (leb at (length j)) refl
 
 -- ---- how far an act came, and lines and level after it
 
-module _ (base staging : ℕ) (act : Act (Unit {0})) (d e : Device) (w j₀ j : List ℕ) (used : ℕ) (k : Walk)
-    (goes : walked k e w j ≡ go base staging act (worldOf d w j₀ used))
+module _ (base : ℕ) (lent : Lent) (act : Act (Unit {0})) (d e : Device) (w j₀ j : List ℕ) (used : ℕ) (k : Walk)
+    (goes : walked k e w j ≡ go base lent act (worldOf d w j₀ used))
   where
     grown : AtEnd (Grown (worldOf d w j₀ used)) (walked k e w j)
-    grown = rw goes (go-grows base staging (worldOf d w j₀ used) act)
+    grown = rw goes (go-grows base lent (worldOf d w j₀ used) act)
 
     pub grown-on : {at : ℕ} → k ≡ On at → used ≤ length j₀ → Longer used at j₀ j
     unfolding walked
@@ -104,18 +104,18 @@ module _ (base staging : ℕ) (act : Act (Unit {0})) (d e : Device) (w j₀ j : 
     unfolding walked
     grown-off {at = at} f h = journal-grows d e w w j₀ j used at h (rw f at grown)
 
-    pub levelled-on : {at : ℕ} {e′ : Device} → k ≡ On at → Does relevel e e′ → go base staging (levelled act) (worldOf d w j₀ used) ≡ ok Heard.Nothing (worldOf e′ w j at)
+    pub levelled-on : {at : ℕ} {e′ : Device} → k ≡ On at → Does relevel e e′ → go base lent (levelled act) (worldOf d w j₀ used) ≡ ok Heard.Nothing (worldOf e′ w j at)
     unfolding walked levelled Answers go
     levelled-on {at} f h =
-        let went : go base staging act (worldOf d w j₀ used) ≡ ok tt (worldOf e w j at) = sym goes ∙ rw f refl in
-        then-ok base staging act (relevel >> done Heard.Nothing) (worldOf d w j₀ used) went
-        ∙ then-ok base staging relevel (done Heard.Nothing) (worldOf e w j at) (h base staging w (take at j) (drop at j))
+        let went : go base lent act (worldOf d w j₀ used) ≡ ok tt (worldOf e w j at) = sym goes ∙ rw f refl in
+        then-ok base lent act (relevel >> done Heard.Nothing) (worldOf d w j₀ used) went
+        ∙ then-ok base lent relevel (done Heard.Nothing) (worldOf e w j at) (h base lent w (take at j) (drop at j))
 
-    pub levelled-off : {why : Refusal} {at : ℕ} → k ≡ Off why at → go base staging (levelled act) (worldOf d w j₀ used) ≡ no (refusalNumber why) (worldOf e w j at)
+    pub levelled-off : {why : Refusal} {at : ℕ} → k ≡ Off why at → go base lent (levelled act) (worldOf d w j₀ used) ≡ no (refusalNumber why) (worldOf e w j at)
     unfolding walked levelled
     levelled-off {why} {at} f =
-        let went : go base staging act (worldOf d w j₀ used) ≡ no (refusalNumber why) (worldOf e w j at) = sym goes ∙ rw f refl in
-        then-no base staging act (relevel >> done Heard.Nothing) (worldOf d w j₀ used) went
+        let went : go base lent act (worldOf d w j₀ used) ≡ no (refusalNumber why) (worldOf e w j at) = sym goes ∙ rw f refl in
+        then-no base lent act (relevel >> done Heard.Nothing) (worldOf d w j₀ used) went
 
 pub since : {used at : ℕ} {j₀ j : List ℕ} → Longer used at j₀ j → Since used j₀ j
 since l = record { front = sym (l .front); long = sym (l .long) }
@@ -123,11 +123,11 @@ since l = record { front = sym (l .front); long = sym (l .long) }
 -- ---- what an act touches
 
 pub spared : (t : Touched) {A : Type 0} (m : Act A) (a : A) (d e : HeldDevice) (u f : List ℕ) (v : World) → Typed d → Each (sparing (touchedBy t)) m
-    → v .now .dev ≡ view e → go 0 0 m (record { now = record { mem = []; dev = view d }; used = u; free = f }) ≡ ok a v → SparedOf t d e
+    → v .now .dev ≡ view e → go 0 (lending 0) m (record { now = record { mem = []; dev = view d }; used = u; free = f }) ≡ ok a v → SparedOf t d e
 spared t {A} m a d e u f v g each p q =
     let s : Properly (λ x. SameArrays (touchedBy t) (view d) (x .now .dev)) v =
     subst (λ (o : Out A). AtEnd (Properly (λ x. SameArrays (touchedBy t) (view d) (x .now .dev))) o) q
-    (spares 0 0 (touchedBy t) each (record { now = record { mem = []; dev = view d }; used = u; free = f }) (typed-proper d g)) in
+    (spares 0 (lending 0) (touchedBy t) each (record { now = record { mem = []; dev = view d }; used = u; free = f }) (typed-proper d g)) in
     let h : SameArrays (touchedBy t) (view d) (view e) = subst (SameArrays (touchedBy t) (view d)) p (s .1) in
     let levels : (c : ℕ) → touchedBy t 3 ≡ false → heldAt (d .controllers) c .levels ≡ heldAt (e .controllers) c .levels =
     λ c z. same-held (d .controllers) (e .controllers) c (h .levels-are z c) in
@@ -147,14 +147,14 @@ heard-nothing Verdict.Accepted = refl
 heard-nothing (Verdict.Refused r) = refl
 
 module _ (r : Acted) (d : Device) (used : ℕ) (act : Act (Unit {0})) (base : ℕ) (w staging j₀ j′ : List ℕ) where
-  pub settled : {v : World} → go base (length staging) (levelled act) (worldOf d w j₀ used) ≡ ok Heard.Nothing v
+  pub settled : {v : World} → go base (lending (length staging)) (levelled act) (worldOf d w j₀ used) ≡ ok Heard.Nothing v
       → toldWith Heard.Nothing r w staging j′ ≡ toldAfter staging used (leave (worldOf d w j₀ used) (ok Heard.Nothing v))
-      → toldActed r w staging j′ ≡ toldAfter staging used (perform base (length staging) (levelled act) (worldOf d w j₀ used))
+      → toldActed r w staging j′ ≡ toldAfter staging used (perform base (lending (length staging)) (levelled act) (worldOf d w j₀ used))
   unfolding perform
   settled e t = rw e (rw (heard-nothing (r .verdict)) at t)
 
-  pub settled-not : {n : ℕ} {v : World} → go base (length staging) (levelled act) (worldOf d w j₀ used) ≡ no n v
+  pub settled-not : {n : ℕ} {v : World} → go base (lending (length staging)) (levelled act) (worldOf d w j₀ used) ≡ no n v
       → toldWith Heard.Nothing r w staging j′ ≡ toldAfter staging used (unmade n (cleared (worldOf d w j₀ used)))
-      → toldActed r w staging j′ ≡ toldAfter staging used (perform base (length staging) (levelled act) (worldOf d w j₀ used))
+      → toldActed r w staging j′ ≡ toldAfter staging used (perform base (lending (length staging)) (levelled act) (worldOf d w j₀ used))
   unfolding perform leave
   settled-not e t = rw e (rw (heard-nothing (r .verdict)) at t)

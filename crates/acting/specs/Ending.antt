@@ -6,7 +6,7 @@ use Prim.Native.Nat.{ℕ, zero, suc, _≤_}
 use lib.ListN.{length, take}
 use Rattle.rules.specs.Act.{Act}
 use Rattle.rules.specs.Calls.{Told, told, toldActed, toldAfter, verdictNumber, refusalNumber, worldOf, levelled}
-use Rattle.rules.specs.Carry.{ok, unmade, cleared, go, leave, perform}
+use Rattle.rules.specs.Carry.{ok, unmade, cleared, go, leave, perform, Lent, lending}
 use Rattle.rules.specs.declared.Acted.{Acted}
 use Rattle.rules.specs.State.{Device}
 use Rattle.rules.specs.View.{view}
@@ -57,11 +57,11 @@ pub record Began (d : Device) (s : Reached) (touched : Touched) (used : ℕ) (j 
   pub act : Act (Unit {0})
   pub entry : List ℕ
   pub fits : used ≤ length entry
-  pub goes : (base staging : ℕ) (w : List ℕ) → reached s w j ≡ go base staging act (worldOf d w entry used)
+  pub goes : (base : ℕ) (lent : Lent) (w : List ℕ) → reached s w j ≡ go base lent act (worldOf d w entry used)
   pub spares : Each (sparing (touchedBy touched)) act
 
 -- of any such act, lines and level worked out anew after it
 abbrev pub Settles : Device → Reached → ℕ → Acted → List ℕ → List ℕ → Type 0
 Settles d s used r j j′ =
-    (act : Act (Unit {0})) (base : ℕ) (w staging j₀ : List ℕ) → used ≤ length j₀ → reached s w j ≡ go base (length staging) act (worldOf d w j₀ used)
-    → toldActed r w staging j′ ≡ toldAfter staging used (perform base (length staging) (levelled act) (worldOf d w j₀ used))
+    (act : Act (Unit {0})) (base : ℕ) (w staging j₀ : List ℕ) → used ≤ length j₀ → reached s w j ≡ go base (lending (length staging)) act (worldOf d w j₀ used)
+    → toldActed r w staging j′ ≡ toldAfter staging used (perform base (lending (length staging)) (levelled act) (worldOf d w j₀ used))

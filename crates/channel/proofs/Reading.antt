@@ -7,7 +7,7 @@ use lib.Dec.{lit≤, eqb}
 use lib.ListN.{length, getD}
 use Rattle.rules.specs.Act.{Act, table, ask, fetch, _>>=_}
 use Rattle.rules.specs.Bytes.{number, part}
-use Rattle.rules.specs.Carry.{World, bytesOf, indexOf, fetched, go}
+use Rattle.rules.specs.Carry.{World, bytesOf, indexOf, fetched, go, Lent}
 use Rattle.rules.specs.Minor.{descriptor, tcdOf}
 use Rattle.rules.specs.Run.{requests, offered}
 use Rattle.rules.specs.Words.{has}
@@ -22,10 +22,10 @@ use Rattle.channel.specs.Offers.{offeredIn}
 abbrev pub tcdIn : ℕ → World → Tcd
 tcdIn ch u = tcdOf (part (u .now .dev .table) (32 * ch) 32)
 
-pub descriptor-read : (base staging ch : ℕ) {A : Type 0} (k : Tcd → Act A) (u : World) → 32 * ch + 32 ≤ length (u .now .dev .table)
-    → go base staging (descriptor ch >>= k) u ≡ go base staging (k (tcdIn ch u)) u
+pub descriptor-read : (base : ℕ) (lent : Lent) (ch : ℕ) {A : Type 0} (k : Tcd → Act A) (u : World) → 32 * ch + 32 ≤ length (u .now .dev .table)
+    → go base lent (descriptor ch >>= k) u ≡ go base lent (k (tcdIn ch u)) u
 unfolding descriptor fetch _>>=_ fetched bytesOf indexOf
-descriptor-read base staging ch k u h = fetch-inside base staging table (32 * ch) 32 (λ b. k (tcdOf b)) u (in-table base (32 * ch) 32 (u .now) h)
+descriptor-read base lent ch k u h = fetch-inside base lent table (32 * ch) 32 (λ b. k (tcdOf b)) u (in-table base (32 * ch) 32 (u .now) h)
 
 module _ (l : List ℕ) (o : ℕ) where
   inner : (i n : ℕ) → i + n ≤ 32 → number (part (part l o 32) i n) ≡ number (part l (o + i) n)
@@ -45,9 +45,9 @@ module _ (l : List ℕ) (o : ℕ) where
 abbrev pub offeredAt : ℕ → World → Bool
 offeredAt ch u = offeredIn (u .now .dev .erq) (u .now .dev .standing) (u .now .dev .pending) ch
 
-pub offered-read : (base staging ch : ℕ) {A : Type 0} (k : Bool → Act A) (u : World) → go base staging (offered ch >>= k) u ≡ go base staging (k (offeredAt ch u)) u
+pub offered-read : (base : ℕ) (lent : Lent) (ch : ℕ) {A : Type 0} (k : Bool → Act A) (u : World) → go base lent (offered ch >>= k) u ≡ go base lent (k (offeredAt ch u)) u
 unfolding offered requests go ask _>>=_ offeredIn
-offered-read base staging ch k u = refl
+offered-read base lent ch k u = refl
 
 -- by cases, as the code asks
 module _ (erq standing : ℕ) (counts : List ℕ) (ch : ℕ) {e : Bool} (enabled : e ≡ has erq ch) where

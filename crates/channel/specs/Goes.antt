@@ -4,7 +4,7 @@ use mathlib.Core.Path.{_≡_}
 use Prim.Native.Nat.{ℕ, _^_, _<_}
 use Rattle.rules.specs.Act.{Act}
 use Rattle.rules.specs.Calls.{refusalNumber}
-use Rattle.rules.specs.Carry.{Out, ok, no, go}
+use Rattle.rules.specs.Carry.{Out, ok, no, go, Lent}
 use Rattle.rules.specs.With.{withPending}
 use Rattle.rules.specs.State.{Device}
 use Rattle.flow.specs.Worlds.{world, told}
@@ -15,13 +15,13 @@ use Rattle.channel.specs.declared.Line.{Line}
 use Rattle.channel.specs.declared.Line.the-variants.{Sum, Broken}
 
 -- passes one after the other
-abbrev pub Goes : Act (Unit {0}) → ℕ → ℕ → Flow → Step → List ℕ → List ℕ → List ℕ → List ℕ → List ℕ → List ℕ → List ℕ → List ℕ → Type 0
-Goes act base staging c r w w′ j j′ t t′ m m′ = (d : Device) → told r d w′ j′ t′ m′ ≡ go base staging act (world d c w j t m)
+abbrev pub Goes : Act (Unit {0}) → ℕ → Lent → Flow → Step → List ℕ → List ℕ → List ℕ → List ℕ → List ℕ → List ℕ → List ℕ → List ℕ → Type 0
+Goes act base lent c r w w′ j j′ t t′ m m′ = (d : Device) → told r d w′ j′ t′ m′ ≡ go base lent act (world d c w j t m)
 
 -- passes on requests, which spend pending counts
-abbrev pub Asks : Act (Unit {0}) → ℕ → ℕ → ℕ → Flow → Step → List ℕ → List ℕ → List ℕ → List ℕ → List ℕ → List ℕ → List ℕ → List ℕ → List ℕ → List ℕ → Type 0
-Asks act base staging standing c r w w′ j j′ t t′ m m′ p p′ =
-    (d : Device) → d .standing ≡ standing → told r (withPending d p′) w′ j′ t′ m′ ≡ go base staging act (world (withPending d p) c w j t m)
+abbrev pub Asks : Act (Unit {0}) → ℕ → Lent → ℕ → Flow → Step → List ℕ → List ℕ → List ℕ → List ℕ → List ℕ → List ℕ → List ℕ → List ℕ → List ℕ → List ℕ → Type 0
+Asks act base lent standing c r w w′ j j′ t t′ m m′ p p′ =
+    (d : Device) → d .standing ≡ standing → told r (withPending d p′) w′ j′ t′ m′ ≡ go base lent act (world (withPending d p) c w j t m)
 
 -- the sum of the bytes of a line's passes
 unfoldable pub lined : Line → Device → List ℕ → List ℕ → List ℕ → List ℕ → Out ℕ
@@ -37,6 +37,6 @@ abbrev pub Small : Line → Type 0
 Small (Sum n c) = n < 2 ^ 33
 Small (Broken r c) = Unit {0}
 
-pub record Sums (act : Act ℕ) (base staging : ℕ) (c : Flow) (r : Line) (w w′ j j′ t t′ m m′ : List ℕ) : Type 0 where
+pub record Sums (act : Act ℕ) (base : ℕ) (lent : Lent) (c : Flow) (r : Line) (w w′ j j′ t t′ m m′ : List ℕ) : Type 0 where
   pub small : Small r
-  pub does : (d : Device) → lined r d w′ j′ t′ m′ ≡ go base staging act (world d c w j t m)
+  pub does : (d : Device) → lined r d w′ j′ t′ m′ ≡ go base lent act (world d c w j t m)

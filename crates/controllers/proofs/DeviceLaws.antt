@@ -44,7 +44,7 @@ part-whole xs n e = ext-getD 0 (part xs 0 n) xs (length-part xs 0 n ∙ sym e) (
 module _ (d : Device) (c : ℕ) where
   sources-answers : Answers (sources c) d (sourcesOf (d .ignore) (controller (d .controllers) c)) d
   unfolding Answers go sources acts
-  sources-answers base staging mem used free = refl
+  sources-answers base lent mem used free = refl
 
   bytes-answer : (n s : ℕ) → Answers (levelBytes c n s) d (part (controller (d .controllers) c .levels) s n) d
   unfolding levelBytes part

@@ -12,7 +12,7 @@ use Rattle.rules.specs.State.{Device}
 use Rattle.rules.specs.Act.{Act, Field, table, nothing, fetch, store, change, when, _>>=_, _>>_, KICK}
 use Rattle.rules.specs.Bytes.{number}
 use Rattle.rules.specs.Calls.{isNone, orNothing, worldOf, badSize}
-use Rattle.rules.specs.Carry.{Out, ok, go, legal}
+use Rattle.rules.specs.Carry.{Out, ok, go, legal, Lent}
 use Rattle.rules.specs.Fields.{bitsOf, holds, withField}
 use Rattle.rules.specs.Registers.{within, inTable, command, tableWrite, pick, dmaArms, dmaWrite}
 use Rattle.rules.specs.Minor.{START}
@@ -86,14 +86,14 @@ pub changed-to : (d : Device) (f : Field) (g : ℕ → ℕ) {x : ℕ} → x ≡ 
 changed-to d f g e h = rw e (does-change d f g (rw e at h))
 
 -- a descriptor write: its store, and then KICK
-module _ (base staging : ℕ) (d : Device) (w j : List ℕ) (at off size v : ℕ) (s : Step) (j′ t l : List ℕ) where
+module _ (base : ℕ) (lent : Lent) (d : Device) (w j : List ℕ) (at off size v : ℕ) (s : Step) (j′ t l : List ℕ) where
   pub table-written : {r o p : Out (Unit {0})} {b : Bool} {m : ℕ} → 32 * (off / 32) + 0x1F + 1 ≤ length t → b ≡ startsIn t off size → m ≡ 2 ^ (off / 32)
-      → r ≡ on base staging (when b (change KICK (λ k. bitOr k m))) o → o ≡ told s d w j′ t l
-      → told s d w j′ t l ≡ on base staging (store table off size v) p → p ≡ walked (On at) d w j
-      → r ≡ go base staging (tableWrite off size v) (worldOf d w j at)
+      → r ≡ on base lent (when b (change KICK (λ k. bitOr k m))) o → o ≡ told s d w j′ t l
+      → told s d w j′ t l ≡ on base lent (store table off size v) p → p ≡ walked (On at) d w j
+      → r ≡ go base lent (tableWrite off size v) (worldOf d w j at)
   unfolding tableWrite startsIn gain walked on
   table-written h e f kicks back stores begins =
       let rest : List ℕ → Act (Unit {0}) = λ b. when (ltb (32 * (off / 32) + 0x1F) (off + size) && has (number b) START) (change KICK (λ k. bitOr k (2 ^ (off / 32)))) in
-      then base staging (store table off size v) (fetch table (32 * (off / 32) + 0x1F) 1 >>= rest) (ok tt (worldOf d w j at))
-      (kicks ∙ rw (back, e, f) (sym (fetched base staging s d w j′ t l (32 * (off / 32) + 0x1F) 1 rest h)))
+      then base lent (store table off size v) (fetch table (32 * (off / 32) + 0x1F) 1 >>= rest) (ok tt (worldOf d w j at))
+      (kicks ∙ rw (back, e, f) (sym (fetched base lent s d w j′ t l (32 * (off / 32) + 0x1F) 1 rest h)))
       (stores ∙ rw begins refl)

@@ -13,7 +13,7 @@ use Rattle.rules.specs.declared.Refusal.{Refusal}
 use Rattle.rules.specs.Act.{Act, Field, table, store, change, when, _>>_, ERQ, KICK}
 use Rattle.rules.specs.Bytes.{number, part}
 use Rattle.rules.specs.Calls.{worldOf}
-use Rattle.rules.specs.Carry.{World, Out, ok, go}
+use Rattle.rules.specs.Carry.{World, Out, ok, go, Lent}
 use Rattle.rules.specs.Fields.{bitsOf, holds, withField}
 use Rattle.rules.specs.Registers.{named, flagOne, flagEach, setRequests, setStarts, command, commands}
 use Rattle.rules.specs.Run.{requesting}
@@ -52,43 +52,43 @@ requests d v a {m} e h p q asks =
 
 -- ---- flags
 
-module _ (base staging : ℕ) where
+module _ (base : ℕ) (lent : Lent) where
   pub flag-done : (s : Step) (d : Device) (w j t l : List ℕ) (g : ℕ → ℕ) (ch : ℕ) {x b : ℕ} {r : Out (Unit {0})}
       → 32 * ch + 0x1F + 1 ≤ length t → b ≡ number (part t (32 * ch + 0x1F) 1) → x ≡ g b
-      → r ≡ on base staging (store table (32 * ch + 0x1F) 1 x) (told s d w j t l) → r ≡ on base staging (flagOne g ch) (told s d w j t l)
+      → r ≡ on base lent (store table (32 * ch + 0x1F) 1 x) (told s d w j t l) → r ≡ on base lent (flagOne g ch) (told s d w j t l)
   unfolding flagOne
   flag-done s d w j t l g ch h p e q =
-      q ∙ rw (e, p) (sym (fetched base staging s d w j t l (32 * ch + 0x1F) 1 (λ b. store table (32 * ch + 0x1F) 1 (g (number b))) h))
+      q ∙ rw (e, p) (sym (fetched base lent s d w j t l (32 * ch + 0x1F) 1 (λ b. store table (32 * ch + 0x1F) 1 (g (number b))) h))
 
   -- a turn of the loop over the channels, and its end
-  module _ (g : ℕ → ℕ) (m ch : ℕ) (o : Out (Unit {0})) {whole : Out (Unit {0})} (so-far : on base staging (flagEach g m (64 - ch) ch) o ≡ whole) where
-    pub flag-turn : {o′ : Out (Unit {0})} {b : Bool} → ch < 64 → b ≡ has m ch → o′ ≡ on base staging (when b (flagOne g ch)) o
-        → on base staging (flagEach g m (64 - (ch + 1)) (ch + 1)) o′ ≡ whole
+  module _ (g : ℕ → ℕ) (m ch : ℕ) (o : Out (Unit {0})) {whole : Out (Unit {0})} (so-far : on base lent (flagEach g m (64 - ch) ch) o ≡ whole) where
+    pub flag-turn : {o′ : Out (Unit {0})} {b : Bool} → ch < 64 → b ≡ has m ch → o′ ≡ on base lent (when b (flagOne g ch)) o
+        → on base lent (flagEach g m (64 - (ch + 1)) (ch + 1)) o′ ≡ whole
     unfolding flagEach _>>_
     flag-turn h p e =
         let q : 64 - ch ≡ suc (64 - (ch + 1)) = omega arith in
-        rw (e, p, add-one) (sym (on-then base staging (when (has m ch) (flagOne g ch)) (flagEach g m (64 - suc ch) (suc ch)) o) ∙ (rw (q, add-one) at so-far))
+        rw (e, p, add-one) (sym (on-then base lent (when (has m ch) (flagOne g ch)) (flagEach g m (64 - suc ch) (suc ch)) o) ∙ (rw (q, add-one) at so-far))
 
     pub flag-end : 64 ≤ ch → o ≡ whole
     unfolding flagEach
-    flag-end h = let q : 64 - ch ≡ 0 = omega arith in sym (on-nothing base staging o) ∙ (rw q at so-far)
+    flag-end h = let q : 64 - ch ≡ 0 = omega arith in sym (on-nothing base lent o) ∙ (rw q at so-far)
 
 -- ---- a write that goes on
 
-module _ (base staging : ℕ) (d : Device) (w j : List ℕ) {k : Walk} where
+module _ (base : ℕ) (lent : Lent) (d : Device) (w j : List ℕ) {k : Walk} where
   -- what is off stays so; what is on goes on from the journal's end
-  pub off-stays : {n : Refusal} {at : ℕ} (m : Act (Unit {0})) → k ≡ Off n at → walked k d w j ≡ on base staging m (walked k d w j)
+  pub off-stays : {n : Refusal} {at : ℕ} (m : Act (Unit {0})) → k ≡ Off n at → walked k d w j ≡ on base lent m (walked k d w j)
   unfolding walked on
   off-stays m e = rw e
 
-  pub on-from : {at : ℕ} (m : Act (Unit {0})) {r : Out (Unit {0})} → k ≡ On at → r ≡ go base staging m (worldOf d w j at) → r ≡ on base staging m (walked k d w j)
+  pub on-from : {at : ℕ} (m : Act (Unit {0})) {r : Out (Unit {0})} → k ≡ On at → r ≡ go base lent m (worldOf d w j at) → r ≡ on base lent m (walked k d w j)
   unfolding walked on
   on-from m e q = rw e q
 
 -- what a device does is done from the journal's end on
-pub does-on : (base staging : ℕ) (d e : Device) (w j : List ℕ) (at : ℕ) (m : Act (Unit {0})) → Does m d e → walked (On at) e w j ≡ go base staging m (worldOf d w j at)
+pub does-on : (base : ℕ) (lent : Lent) (d e : Device) (w j : List ℕ) (at : ℕ) (m : Act (Unit {0})) → Does m d e → walked (On at) e w j ≡ go base lent m (worldOf d w j at)
 unfolding walked Answers
-does-on base staging d e w j at m h = sym (h base staging w (take at j) (drop at j))
+does-on base lent d e w j at m h = sym (h base lent w (take at j) (drop at j))
 
 -- KICK gains a mask
 pub kicks : (d : Device) (m : ℕ) → d .kick < 2 ^ 64 → m < 2 ^ 64 → Does (change KICK (λ k. bitOr k m)) d (withKick d (bitOr (d .kick) m))
@@ -97,19 +97,19 @@ kicks d m p q = does-change d KICK (λ k. bitOr k m) (or-lt 64 (d .kick) m p q)
 
 -- ---- one after another, from the journal's end on
 
-module _ (base staging : ℕ) where
+module _ (base : ℕ) (lent : Lent) where
   -- with the table taken out of the device, and put back
-  pub through : (m : Act (Unit {0})) (d : Device) (w j : List ℕ) (at : ℕ) {r o p : Out (Unit {0})} → r ≡ o → o ≡ on base staging m p → p ≡ walked (On at) d w j
-      → r ≡ go base staging m (worldOf d w j at)
+  pub through : (m : Act (Unit {0})) (d : Device) (w j : List ℕ) (at : ℕ) {r o p : Out (Unit {0})} → r ≡ o → o ≡ on base lent m p → p ≡ walked (On at) d w j
+      → r ≡ go base lent m (worldOf d w j at)
   unfolding walked on
   through m d w j at e f g = e ∙ f ∙ rw g refl
 
-  pub starts : (v : ℕ) (u : World) {m : ℕ} {r o : Out (Unit {0})} → m ≡ named v → r ≡ on base staging (when true (change KICK (λ k. bitOr k m))) o
-      → o ≡ go base staging (flagEach (flagged true) m 64 0) u → r ≡ go base staging (setStarts v) u
+  pub starts : (v : ℕ) (u : World) {m : ℕ} {r o : Out (Unit {0})} → m ≡ named v → r ≡ on base lent (when true (change KICK (λ k. bitOr k m))) o
+      → o ≡ go base lent (flagEach (flagged true) m 64 0) u → r ≡ go base lent (setStarts v) u
   unfolding setStarts flagged when on
-  starts v u e f g = then base staging (flagEach (flagged true) (named v) 64 0) (change KICK (λ k. bitOr k (named v))) (ok tt u) (rw e at f) (rw e at g)
+  starts v u e f g = then base lent (flagEach (flagged true) (named v) 64 0) (change KICK (λ k. bitOr k (named v))) (ok tt u) (rw e at f) (rw e at g)
 
-  pub in-row : (k v : ℕ) (o : Out (Unit {0})) {p q r x : Out (Unit {0})} → p ≡ on base staging (command k (v / 2 ^ 24 % 256)) o → q ≡ on base staging (command (k + 1) (v / 2 ^ 16 % 256)) p
-      → r ≡ on base staging (command (k + 2) (v / 2 ^ 8 % 256)) q → x ≡ on base staging (command (k + 3) (v % 256)) r → x ≡ on base staging (commands k v) o
+  pub in-row : (k v : ℕ) (o : Out (Unit {0})) {p q r x : Out (Unit {0})} → p ≡ on base lent (command k (v / 2 ^ 24 % 256)) o → q ≡ on base lent (command (k + 1) (v / 2 ^ 16 % 256)) p
+      → r ≡ on base lent (command (k + 2) (v / 2 ^ 8 % 256)) q → x ≡ on base lent (command (k + 3) (v % 256)) r → x ≡ on base lent (commands k v) o
   unfolding commands
-  in-row k v o {p} {q} d c b a = then base staging _ _ o (then base staging _ _ p (then base staging _ _ q a b) c) d
+  in-row k v o {p} {q} d c b a = then base lent _ _ o (then base lent _ _ p (then base lent _ _ q a b) c) d

@@ -5,7 +5,7 @@ use mathlib.Core.Path.{_≡_}
 use Prim.Native.Nat.{ℕ}
 use Rattle.rules.specs.Act.{Act}
 use Rattle.rules.specs.Calls.{worldOf}
-use Rattle.rules.specs.Carry.{Out, go}
+use Rattle.rules.specs.Carry.{Out, go, Lent}
 use Rattle.rules.specs.Minor.{START, DONE}
 use Rattle.rules.specs.Words.{gain, lose}
 use Rattle.rules.specs.State.{Device}
@@ -26,11 +26,11 @@ reached r w j = walked (r .walk) (view (r .device)) w j
 
 -- of a function that does an act on a device, from the journal's end `at` on
 abbrev pub Reaches : Act (Unit {0}) → Device → ℕ → Reached → List ℕ → List ℕ → Type 0
-Reaches act d at r j j′ = (base staging : ℕ) (w : List ℕ) → reached r w j′ ≡ go base staging act (worldOf d w j at)
+Reaches act d at r j j′ = (base : ℕ) (lent : Lent) (w : List ℕ) → reached r w j′ ≡ go base lent act (worldOf d w j at)
 
 -- of one that goes on with an act
 abbrev pub OnReached : Act (Unit {0}) → Reached → Reached → List ℕ → List ℕ → Type 0
-OnReached act s r j j′ = (base staging : ℕ) (w : List ℕ) → reached r w j′ ≡ on base staging act (reached s w j)
+OnReached act s r j j′ = (base : ℕ) (lent : Lent) (w : List ℕ) → reached r w j′ ≡ on base lent act (reached s w j)
 
 -- the table is taken out of a device, and put back
 abbrev pub Begins : Device → ℕ → Step → Type 0

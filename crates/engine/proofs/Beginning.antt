@@ -12,7 +12,7 @@ use lib.ListN.{length, take, drop, replicate, drop-of-length-le}
 use lib.Seq.{take-all, drop-length}
 use Rattle.rules.specs.Act.{KICK, DEFERRED, ask, put, change}
 use Rattle.rules.specs.Calls.{badWindow, badJournal, badTime, check, wrong, run, worldOf}
-use Rattle.rules.specs.Carry.{World, withDevice, go}
+use Rattle.rules.specs.Carry.{World, withDevice, go, Lent}
 use Rattle.rules.specs.Fields.{bitsOf}
 use Rattle.rules.specs.Run.{requesting, release, runAll, serviceAll}
 use Rattle.rules.specs.With.{withBusy, withDeferred, withKick}
@@ -99,11 +99,11 @@ pub zeros : (s : List ℕ) (n : ℕ) {s′ : List ℕ} → s′ ≡ take 0 s ++ 
 zeros s n h e = let q : length s - 0 ≡ n = omega arith in h ∙ rw (q, drop-length s, append-nil)
 
 -- all that a run of turns came to
-module _ (time pace base staging standing : ℕ) (t : Course) (s : Turned) (w w′ j j′ tb tb′ m m′ p p′ b b′ : List ℕ)
-    (did : Turns (runAll time pace) base staging standing t s w w′ j j′ tb tb′ m m′ p p′ b b′)
+module _ (time pace base : ℕ) (lent : Lent) (standing : ℕ) (t : Course) (s : Turned) (w w′ j j′ tb tb′ m m′ p p′ b b′ : List ℕ)
+    (did : Turns (runAll time pace) base lent standing t s w w′ j j′ tb tb′ m m′ p p′ b b′)
   where
     pub run-did : (k : Course) → k ≡ courseOf s → (at : ℕ) → at ≡ min (k .flow .at) (length j′) → (v : Verdict) → v ≡ verdictOf s → (d : Device) → d .standing ≡ standing
-        → came v (worldOf (over (around d k p′ b′) (k .flow) tb′ m′) w′ j′ at) ≡ go base staging (runAll time pace) (turning d t w j tb m p b)
+        → came v (worldOf (over (around d k p′ b′) (k .flow) tb′ m′) w′ j′ at) ≡ go base lent (runAll time pace) (turning d t w j tb m p b)
     run-did k k-is at at-is v v-is d h = rw (v-is, world-within _ w′ j′ (k .flow .at) at at-is, k-is) (came-so s d w′ j′ tb′ m′ p′ b′ ∙ did d h)
 
 -- ---- a service's
@@ -125,30 +125,30 @@ module _ (time : ℕ) (d : Device) (back asking : ℕ) (b : List ℕ) (frees : F
     fits : joined < 2 ^ 64
     fits = or-lt 64 (d .kick) _ hk (lt-of-le-of-lt (and-le-l (bitOr back (d .deferred)) (bitOr asking (d .kick))) (or-lt 64 back (d .deferred) hb hd))
 
-    pub offered-again : (pace base staging : ℕ) (mem used free : List ℕ)
-        → go base staging (serviceAll time pace) (beside mem used free d) ≡ go base staging (runAll time pace) (beside mem used free (withKick (withDeferred (withBusy d b) 0) joined))
+    pub offered-again : (pace base : ℕ) (lent : Lent) (mem used free : List ℕ)
+        → go base lent (serviceAll time pace) (beside mem used free d) ≡ go base lent (runAll time pace) (beside mem used free (withKick (withDeferred (withBusy d b) 0) joined))
     unfolding serviceAll Answers withDevice bitsOf
-    offered-again pace base staging mem used free =
+    offered-again pace base lent mem used free =
         let u : World = beside mem used free (withBusy d b) in
         let v : World = beside mem used free (withDeferred (withBusy d b) 0) in
-        bind-ok base staging (release time 64 0 0) _ (beside mem used free d) (frees base staging mem used free d refl)
-        ∙ bind-ok base staging (ask DEFERRED) _ u (ask-does base staging u DEFERRED)
-        ∙ bind-ok base staging requesting _ u (asks base staging mem used free)
-        ∙ then-ok base staging (put DEFERRED 0) _ u (put-does base staging u DEFERRED 0 (lit< tt))
-        ∙ then-ok base staging (change KICK (λ k. bitOr k (bitAnd (bitOr back (d .deferred)) (bitOr asking k)))) _ v
-        (change-does base staging v KICK (λ k. bitOr k (bitAnd (bitOr back (d .deferred)) (bitOr asking k))) fits)
+        bind-ok base lent (release time 64 0 0) _ (beside mem used free d) (frees base lent mem used free d refl)
+        ∙ bind-ok base lent (ask DEFERRED) _ u (ask-does base lent u DEFERRED)
+        ∙ bind-ok base lent requesting _ u (asks base lent mem used free)
+        ∙ then-ok base lent (put DEFERRED 0) _ u (put-does base lent u DEFERRED 0 (lit< tt))
+        ∙ then-ok base lent (change KICK (λ k. bitOr k (bitAnd (bitOr back (d .deferred)) (bitOr asking k)))) _ v
+        (change-does base lent v KICK (λ k. bitOr k (bitAnd (bitOr back (d .deferred)) (bitOr asking k))) fits)
 
 -- where the turns begin
 
 pub offers-run : (again : Bool) → again ≡ false → (time : ℕ) (s : Small) (used : ℕ) (p b : List ℕ) {r : Course} → r ≡ courseFrom s used → Offers again time s r p b b used
-offers-run again h time s used p b e pace base staging ignore tb m taken w j = rw (h, e) refl
+offers-run again h time s used p b e pace base lent ignore tb m taken w j = rw (h, e) refl
 
 pub offers-service : (again : Bool) → again ≡ true → (time : ℕ) (s : Small) (used : ℕ) (p b b′ : List ℕ) (r : Course) → Offers true time s r p b b′ used → Offers again time s r p b b′ used
-offers-service again h time s used p b b′ r o pace base staging ignore tb m taken w j = rw h (o pace base staging ignore tb m taken w j)
+offers-service again h time s used p b b′ r o pace base lent ignore tb m taken w j = rw h (o pace base lent ignore tb m taken w j)
 
 pub offers-again : (time : ℕ) (s : Small) (used back asking : ℕ) (p b b′ : List ℕ) → Frees time (s .erq) back b b′ → asking ≡ waitingIn p 64 0 (s .standing)
     → back < 2 ^ 64 → s .kick < 2 ^ 64 → s .deferred < 2 ^ 64
     → Offers true time s (again-from s used (bitOr (s .kick) (bitAnd (bitOr back (s .deferred)) (bitOr asking (s .kick))))) p b b′ used
-offers-again time s used back asking p b b′ frees asks hb hk hd pace base staging ignore tb m taken w j =
+offers-again time s used back asking p b b′ frees asks hb hk hd pace base lent ignore tb m taken w j =
     let d : Device = whole s ignore tb b m p taken in
-    offered-again time d back asking b′ frees (requesting-answers (withBusy d b′) asks) hb hk hd pace base staging w (take used j) (drop used j)
+    offered-again time d back asking b′ frees (requesting-answers (withBusy d b′) asks) hb hk hd pace base lent w (take used j) (drop used j)

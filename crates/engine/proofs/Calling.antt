@@ -7,7 +7,7 @@ use native.Mathlib.Omega.{arith}
 use lib.Dec.{lit<}
 use lib.ListN.{length, replicate}
 use Rattle.rules.specs.Calls.{Asked, run, service, Told, told, refusalNumber, verdictNumber, levelled, actOf, wrong, stagingAfter, worldOf, toldAfter, after}
-use Rattle.rules.specs.Carry.{perform}
+use Rattle.rules.specs.Carry.{perform, lending}
 use Rattle.rules.specs.Run.{runAll, serviceAll}
 use Rattle.rules.specs.State.{Device}
 use Rattle.rules.specs.View.{view}
@@ -84,19 +84,19 @@ module _ (base : ℕ) (d : Device) (w s j : List ℕ) (used : ℕ) where
 
   module _ (time pace : ℕ) (x : Told) where
     run-told : wrong base (length w) (length j) used (run time pace) ≡ 0
-        → x ≡ toldAfter (replicate (length s) 0) used (perform base (length s) (levelled (runAll time pace)) (worldOf d w j used))
+        → x ≡ toldAfter (replicate (length s) 0) used (perform base (lending (length s)) (levelled (runAll time pace)) (worldOf d w j used))
         → x ≡ after (run time pace) base d w s j used
     unfolding after stagingAfter actOf
     run-told e q = q ∙ sym (rw (e, after))
 
     service-told : wrong base (length w) (length j) used (service time pace) ≡ 0
-        → x ≡ toldAfter (replicate (length s) 0) used (perform base (length s) (levelled (serviceAll time pace)) (worldOf d w j used))
+        → x ≡ toldAfter (replicate (length s) 0) used (perform base (lending (length s)) (levelled (serviceAll time pace)) (worldOf d w j used))
         → x ≡ after (service time pace) base d w s j used
     unfolding after stagingAfter actOf
     service-told e q = q ∙ sym (rw (e, after))
 
     pub asked-told : (again : Bool) → wrong base (length w) (length j) used (run time pace) ≡ 0
-        → x ≡ toldAfter (replicate (length s) 0) used (perform base (length s) (levelled (stepsOf again time pace)) (worldOf d w j used))
+        → x ≡ toldAfter (replicate (length s) 0) used (perform base (lending (length s)) (levelled (stepsOf again time pace)) (worldOf d w j used))
         → x ≡ after (asked again time pace) base d w s j used
     asked-told true e q = service-told (service-wrong base (length w) (length j) used time pace ∙ e) q
     asked-told false e q = run-told e q

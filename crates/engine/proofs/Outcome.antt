@@ -8,7 +8,7 @@ use lib.Seq.{length-take-le}
 use Rattle.rules.specs.Act.{Act, window, table}
 use Rattle.rules.specs.Bytes.{Bytes}
 use Rattle.rules.specs.Calls.{Told, told, refusalNumber, verdictNumber, levelled, worldOf, toldAfter}
-use Rattle.rules.specs.Carry.{Machine, World, Rec, stoodAt, stoodIn, ok, no, there, go, unmade, cleared, leave, perform}
+use Rattle.rules.specs.Carry.{Machine, World, Rec, stoodAt, stoodIn, ok, no, there, go, unmade, cleared, leave, perform, Lent, lending}
 use Rattle.rules.specs.Fields.{fieldsOf}
 use Rattle.rules.specs.Lines.{relevel}
 use Rattle.rules.specs.TakeBack.{soundStore}
@@ -59,15 +59,15 @@ at-world P (Verdict.Refused n) u h = h
 
 -- ---- an act that began with `before`, w, j and came to e, w′, j′
 
-module _ (base staging : ℕ) (before : Device) (w j : List ℕ) (used : ℕ) (good : Good base (record { mem = w; dev = before })) (fits : used ≤ length j)
+module _ (base : ℕ) (lent : Lent) (before : Device) (w j : List ℕ) (used : ℕ) (good : Good base (record { mem = w; dev = before })) (fits : used ≤ length j)
     (m : Act (Unit {0})) (v : Verdict) (e : Device) (w′ j′ : List ℕ) (at : ℕ)
-    (steps : came v (worldOf e w′ j′ at) ≡ go base staging m (worldOf before w j used))
+    (steps : came v (worldOf e w′ j′ at) ≡ go base lent m (worldOf before w j used))
   where
     abbrev u : World
     u = worldOf before w j used
 
     pub way : Underway base u (worldOf e w′ j′ at)
-    way = at-world (Underway base u) v (worldOf e w′ j′ at) (subst (AtEnd (Underway base u)) (sym steps) (go-underway base u good staging m))
+    way = at-world (Underway base u) v (worldOf e w′ j′ at) (subst (AtEnd (Underway base u)) (sym steps) (go-underway base u good lent m))
 
     begun : length (take used j) ≡ used
     begun = length-take-le used j fits
@@ -89,54 +89,54 @@ module _ (base staging : ℕ) (before : Device) (w j : List ℕ) (used : ℕ) (g
             (memory-sound base (u .now) (asIn before (record { mem = w′; dev = e })) (way .alike .mem-is) (way .log) (way .all-sound))
             ∙ ap (λ (x : Machine). x .mem) (way .undone)
 
-        told-back : (z : List ℕ) (n : ℕ) → perform base staging (levelled m) u ≡ unmade n (cleared u)
-            → told n Heard.Nothing before w″ z j″ used ≡ toldAfter z used (perform base staging (levelled m) u)
+        told-back : (z : List ℕ) (n : ℕ) → perform base lent (levelled m) u ≡ unmade n (cleared u)
+            → told n Heard.Nothing before w″ z j″ used ≡ toldAfter z used (perform base lent (levelled m) u)
         unfolding toldAfter cleared
         told-back z n p =
             rw (p, window-back, rolled-journal j₂ (take used j) (way .log) used at (front ∙ way .used-is) begun before w j refl (same ∙ long) (back .journal-is))
 
     -- refused at a step
-    unmade-so : (n : Refusal) → v ≡ Verdict.Refused n → perform base staging (levelled m) u ≡ unmade (refusalNumber n) (cleared u)
+    unmade-so : (n : Refusal) → v ≡ Verdict.Refused n → perform base lent (levelled m) u ≡ unmade (refusalNumber n) (cleared u)
     unfolding perform levelled came
     unmade-so n h =
         let x : World = worldOf e w′ j′ at in
-        let at-no : go base staging m u ≡ no (refusalNumber n) x = sym (rw h at steps) in
-        ap (leave u) (then-no base staging m _ u at-no) ∙ leave-refused u x (refusalNumber n)
+        let at-no : go base lent m u ≡ no (refusalNumber n) x = sym (rw h at steps) in
+        ap (leave u) (then-no base lent m _ u at-no) ∙ leave-refused u x (refusalNumber n)
 
     -- not refused: lines and level are worked out anew
     module _ (h : v ≡ Verdict.Accepted) (e₂ : Device) (relevelled : Does relevel e e₂) where
-      went : go base staging (levelled m) u ≡ ok Heard.Nothing (worldOf e₂ w′ j′ at)
+      went : go base lent (levelled m) u ≡ ok Heard.Nothing (worldOf e₂ w′ j′ at)
       unfolding levelled Answers came
       went =
           let x : World = worldOf e w′ j′ at in
-          let at-ok : go base staging m u ≡ ok tt x = sym (rw h at steps) in
-          then-ok base staging m _ u at-ok ∙ then-ok base staging relevel _ x (relevelled base staging w′ (take at j′) (drop at j′)) ∙ go-done base staging Heard.Nothing (worldOf e₂ w′ j′ at)
+          let at-ok : go base lent m u ≡ ok tt x = sym (rw h at steps) in
+          then-ok base lent m _ u at-ok ∙ then-ok base lent relevel _ x (relevelled base lent w′ (take at j′) (drop at j′)) ∙ go-done base lent Heard.Nothing (worldOf e₂ w′ j′ at)
 
       module _ (r : Noted) (j₂ : List ℕ) (closing : Closes r (fieldsOf before) (fieldsOf e₂) used at j′ j₂) where
-        ended : perform base staging (levelled m) u ≡ closed r Heard.Nothing u e₂ w′ j₂
+        ended : perform base lent (levelled m) u ≡ closed r Heard.Nothing u e₂ w′ j₂
         unfolding perform
         ended = ap (leave u) went ∙ sym (closes closing Heard.Nothing u e₂ w′ refl refl begun)
 
-        full-so : r ≡ Full → perform base staging (levelled m) u ≡ unmade 11 (cleared u)
+        full-so : r ≡ Full → perform base lent (levelled m) u ≡ unmade 11 (cleared u)
         unfolding closed
         full-so f = ended ∙ rw f
 
         told-made : (z : List ℕ) (end n : ℕ) → r ≡ At end → n ≡ min end (length j₂)
-            → told 0 Heard.Nothing e₂ w′ z j₂ n ≡ toldAfter z used (perform base staging (levelled m) u)
+            → told 0 Heard.Nothing e₂ w′ z j₂ n ≡ toldAfter z used (perform base lent (levelled m) u)
         unfolding closed toldAfter
         told-made z end n f q = rw (ended, f, toldAfter, take-append-drop end j₂, length-take end j₂, q)
 
         -- the last records do not fit
         pub ends-full : r ≡ Full → (w″ j″ : List ℕ) → RolledBack base used at w′ j₂ w″ j″ → (z z₀ : List ℕ) → z ≡ z₀
-            → told 11 Heard.Nothing before w″ z j″ used ≡ toldAfter z₀ used (perform base staging (levelled m) u)
+            → told 11 Heard.Nothing before w″ z j″ used ≡ toldAfter z₀ used (perform base lent (levelled m) u)
         ends-full f w″ j″ back z z₀ q = rw q (told-back j₂ (closing .front) (closing .long) w″ j″ back z₀ 11 (full-so f))
 
         pub ends-made : (z z₀ : List ℕ) → z ≡ z₀ → (end n : ℕ) → r ≡ At end → n ≡ min end (length j₂)
-            → told 0 Heard.Nothing e₂ w′ z j₂ n ≡ toldAfter z₀ used (perform base staging (levelled m) u)
+            → told 0 Heard.Nothing e₂ w′ z j₂ n ≡ toldAfter z₀ used (perform base lent (levelled m) u)
         ends-made z z₀ p end n f q = rw p (told-made z₀ end n f q)
 
     pub ends-refused : (n : Refusal) → v ≡ Verdict.Refused n → (w″ j″ : List ℕ) → RolledBack base used at w′ j′ w″ j″ → (z z₀ : List ℕ) → z ≡ z₀
-        → told (verdictNumber v) Heard.Nothing before w″ z j″ used ≡ toldAfter z₀ used (perform base staging (levelled m) u)
+        → told (verdictNumber v) Heard.Nothing before w″ z j″ used ≡ toldAfter z₀ used (perform base lent (levelled m) u)
     ends-refused n h w″ j″ back z z₀ q = rw (q, ap verdictNumber h) (told-back j′ refl refl w″ j″ back z₀ (refusalNumber n) (unmade-so n h))
 
 -- ---- an act on a device in parts: `bef` and tb, b, m, p at entry; its turns began with m₁, p₁, b₁ and came to tb′, m′, p′, b′
@@ -153,22 +153,22 @@ module _ (time pace base : ℕ) (bef : Small) (ignore : Bool) (t : Course) (w s 
     e = over (around d (r .course) p′ b′) (r .course .flow) tb′ m′
 
     abbrev ends : Told
-    ends = toldAfter (replicate (length s) 0) used (perform base (length s) (levelled act) (worldOf d w j used))
+    ends = toldAfter (replicate (length s) 0) used (perform base (lending (length s)) (levelled act) (worldOf d w j used))
 
     good : Good base (record { mem = w; dev = d })
     good = record { sound-dev = fine .0; mem-bytes = bytes; mem-below = below; table-below = fine .1 }
 
-    steps : came (r .verdict) (worldOf e w′ j′ (r .at)) ≡ go base (length s) act (worldOf d w j used)
+    steps : came (r .verdict) (worldOf e w′ j′ (r .at)) ≡ go base (lending (length s)) act (worldOf d w j used)
     steps = ran .does d refl ∙ sym same
 
     pub rolls-first : (used ≤ r .at) × (used ≤ length j′)
-    rolls-first = can-roll base (length s) d w j used good fits act (r .verdict) e w′ j′ (r .at) steps j′ refl refl
+    rolls-first = can-roll base (lending (length s)) d w j used good fits act (r .verdict) e w′ j′ (r .at) steps j′ refl refl
 
     pub told-refused : (n : Refusal) → r .verdict ≡ Verdict.Refused n → (w″ j″ : List ℕ) → RolledBack base used (r .at) w′ j′ w″ j″ → (x : Device)
         → told (verdictNumber (r .verdict)) Heard.Nothing (standing (r .verdict) d x) w″ s′ j″ used ≡ ends
     unfolding standing
     told-refused n h w″ j″ back x =
-        rw (h, standing) (rw h at (ends-refused base (length s) d w j used good fits act (r .verdict) e w′ j′ (r .at) steps n h w″ j″ back s′ _ (ran .cleared-staging)))
+        rw (h, standing) (rw h at (ends-refused base (lending (length s)) d w j used good fits act (r .verdict) e w′ j′ (r .at) steps n h w″ j″ back s′ _ (ran .cleared-staging)))
 
     module _ (l : Levelled) (lines : map viewController (l .controllers) ≡ controllersIn (r .course .flow .int) (map viewController (bef .controllers)))
         (level : l .level ≡ highestIn ignore (r .course .flow .int) (map viewController (bef .controllers)))
@@ -182,20 +182,20 @@ module _ (time pace base : ℕ) (bef : Small) (ignore : Bool) (t : Course) (w s 
 
         relevelled : Does relevel e e₂
         relevelled =
-            rw put (relevel-does e (way base (length s) d w j used good fits act (r .verdict) e w′ j′ (r .at) steps .good .sound-dev) lines level (highest-below ignore (r .course .flow .int) (map viewController (bef .controllers)) level))
+            rw put (relevel-does e (way base (lending (length s)) d w j used good fits act (r .verdict) e w′ j′ (r .at) steps .good .sound-dev) lines level (highest-below ignore (r .course .flow .int) (map viewController (bef .controllers)) level))
 
         module _ (n : Noted) (j₂ : List ℕ) (closing : (taken : List ℕ) → Closes n (fieldsIn bef b m p taken) (fieldsIn after b′ m′ p′ taken) used (r .at) j′ j₂) where
           closed-whole : Closes n (fieldsOf d) (fieldsOf e₂) used (r .at) j′ j₂
           closed-whole = rw (fields-in (held bef ignore tb b m p taken), fields-in (held after ignore tb′ b′ m′ p′ taken)) (closing taken)
 
           pub rolls-last : (used ≤ r .at) × (used ≤ length j₂)
-          rolls-last = can-roll base (length s) d w j used good fits act (r .verdict) e w′ j′ (r .at) steps j₂ (closing taken .front) (closing taken .long)
+          rolls-last = can-roll base (lending (length s)) d w j used good fits act (r .verdict) e w′ j′ (r .at) steps j₂ (closing taken .front) (closing taken .long)
 
           module _ (h : r .verdict ≡ Verdict.Accepted) where
             pub told-full : n ≡ Full → (w″ j″ : List ℕ) → RolledBack base used (r .at) w′ j₂ w″ j″ → told 11 Heard.Nothing d w″ s′ j″ used ≡ ends
             told-full f w″ j″ back =
-                ends-full base (length s) d w j used good fits act (r .verdict) e w′ j′ (r .at) steps h e₂ relevelled n j₂ closed-whole f w″ j″ back s′ _ (ran .cleared-staging)
+                ends-full base (lending (length s)) d w j used good fits act (r .verdict) e w′ j′ (r .at) steps h e₂ relevelled n j₂ closed-whole f w″ j″ back s′ _ (ran .cleared-staging)
 
             pub told-made-so : (end u : ℕ) → n ≡ At end → u ≡ min end (length j₂) → told 0 Heard.Nothing e₂ w′ s′ j₂ u ≡ ends
             told-made-so end u f q =
-                ends-made base (length s) d w j used good fits act (r .verdict) e w′ j′ (r .at) steps h e₂ relevelled n j₂ closed-whole s′ _ (ran .cleared-staging) end u f q
+                ends-made base (lending (length s)) d w j used good fits act (r .verdict) e w′ j′ (r .at) steps h e₂ relevelled n j₂ closed-whole s′ _ (ran .cleared-staging) end u f q

@@ -6,7 +6,7 @@ use Prim.Native.Nat.{ℕ, _^_, _≤_}
 use lib.ListN.{length, replicate}
 use Rattle.rules.specs.Act.{Act}
 use Rattle.rules.specs.Calls.{Asked, run, service, refusalNumber, verdictNumber, levelled, worldOf, told, toldAfter, after}
-use Rattle.rules.specs.Carry.{World, Out, ok, no, go, perform}
+use Rattle.rules.specs.Carry.{World, Out, ok, no, go, perform, Lent, lending}
 use Rattle.rules.specs.Run.{runAll, serviceAll}
 use Rattle.rules.specs.State.{Device}
 use Rattle.rules.specs.View.{view}
@@ -96,7 +96,7 @@ withCourse s t controllers level = record {
 -- a run of turns, whatever the rest of the device is: what it came to, with a journal's end that is not past the journal; staging is zero
 pub record RunsAll (time pace base standing : ℕ) (t : Course) (r : Ran) (w w′ s s′ j j′ tb tb′ m m′ p p′ b b′ : List ℕ) : Type 0 where
   pub does : (d : Device) → d .standing ≡ standing
-      → came (r .verdict) (worldOf (over (around d (r .course) p′ b′) (r .course .flow) tb′ m′) w′ j′ (r .at)) ≡ go base (length s) (runAll time pace) (turning d t w j tb m p b)
+      → came (r .verdict) (worldOf (over (around d (r .course) p′ b′) (r .course .flow) tb′ m′) w′ j′ (r .at)) ≡ go base (lending (length s)) (runAll time pace) (turning d t w j tb m p b)
   pub short : r .at ≤ length j′
   pub cleared-staging : s′ ≡ replicate (length s) 0
 
@@ -107,13 +107,13 @@ stepsOf again time pace = cond again (serviceAll time pace) (runAll time pace)
 -- they are the turns of a run that begins with r and busy times b′
 abbrev pub Offers : Bool → ℕ → Small → Course → List ℕ → List ℕ → List ℕ → ℕ → Type 0
 Offers again time s r p b b′ used =
-    (pace base staging : ℕ) (ignore : Bool) (tb m taken w j : List ℕ)
-    → go base staging (stepsOf again time pace) (worldOf (whole s ignore tb b m p taken) w j used) ≡ go base staging (runAll time pace) (turning (whole s ignore tb b m p taken) r w j tb m p b′)
+    (pace base : ℕ) (lent : Lent) (ignore : Bool) (tb m taken w j : List ℕ)
+    → go base lent (stepsOf again time pace) (worldOf (whole s ignore tb b m p taken) w j used) ≡ go base lent (runAll time pace) (turning (whole s ignore tb b m p taken) r w j tb m p b′)
 
 -- an act on d has the steps of a run that begins with t and other majors, pending and busy
 abbrev pub SameSteps : Act (Unit {0}) → ℕ → ℕ → ℕ → Device → Course → List ℕ → List ℕ → List ℕ → List ℕ → List ℕ → List ℕ → ℕ → Type 0
 SameSteps act time pace base d t w s j m p b used =
-    go base (length s) act (worldOf d w j used) ≡ go base (length s) (runAll time pace) (turning d t w j (d .table) m p b)
+    go base (lending (length s)) act (worldOf d w j used) ≡ go base (lending (length s)) (runAll time pace) (turning d t w j (d .table) m p b)
 
 -- what undoing asks of a device, and every one of the declared type is: sound, with a table whose offsets fit a record's place
 abbrev pub Fine : Device → Type 0
@@ -136,7 +136,7 @@ abbrev pub Carries : ℕ → ℕ → ℕ → Small → Bool → Course → Done 
 Carries time pace base before ignore t r w w′ s s′ j j′ tb tb′ b b₁ b′ m m₁ m′ p p₁ p′ used =
     (taken : List ℕ) → Fine (whole before ignore tb b m p taken) → (act : Act (Unit {0})) → SameSteps act time pace base (whole before ignore tb b m p taken) t w s j m₁ p₁ b₁ used
     → told (verdictNumber (r .verdict)) Heard.Nothing (standing (r .verdict) (whole (r .small) ignore tb b m p taken) (whole (r .small) ignore tb′ b′ m′ p′ taken)) w′ s′ j′ (r .used)
-    ≡ toldAfter (replicate (length s) 0) used (perform base (length s) (levelled act) (worldOf (whole before ignore tb b m p taken) w j used))
+    ≡ toldAfter (replicate (length s) 0) used (perform base (lending (length s)) (levelled act) (worldOf (whole before ignore tb b m p taken) w j used))
 
 -- the parts are those of a device
 pub record Sounds (s : Small) (ignore : Bool) (tb b m p : List ℕ) : Type 0 where

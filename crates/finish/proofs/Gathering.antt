@@ -8,7 +8,7 @@ use lib.ListN.{length, getD, take}
 use lib.Seq.{take-all}
 use Rattle.rules.specs.Act.{Act, window, _>>=_, fetch}
 use Rattle.rules.specs.Bytes.{part}
-use Rattle.rules.specs.Carry.{Out, bytesOf, fetched}
+use Rattle.rules.specs.Carry.{Out, bytesOf, fetched, Lent}
 use Rattle.rules.specs.Minor.{gather}
 use Rattle.rules.specs.Words.{wrap32}
 use Rattle.rules.specs.State.{Device}
@@ -23,29 +23,29 @@ use Rattle.journal.specs.declared.Place.the-variants.{At, Outside}
 use Rattle.journal.proofs.Laws.{not-there, at-there, at-index}
 
 -- the byte number i of n, at address `from` + i
-module _ (base staging : ℕ) (d : Device) (c : Flow) (w j t m : List ℕ) {A : Type 0} (k : List ℕ → Act A) (n i from : ℕ) (more : i < n)
+module _ (base : ℕ) (lent : Lent) (d : Device) (c : Flow) (w j t m : List ℕ) {A : Type 0} (k : List ℕ → Act A) (n i from : ℕ) (more : i < n)
     (got : List ℕ) {a : ℕ} (address : a ≡ (from + i) % 2 ^ 32) {p : Place} (asked : p ≡ placeOf base w a 1)
   where
     less : n - i ≡ suc (n - (i + 1))
     less = omega arith
 
     pub gather-outside : p ≡ Outside → (x : List ℕ)
-        → on base staging (k x) (told (Refused Refusal.Outside c) d w j t m) ≡ on base staging (gather (n - i) (from + i) got >>= k) (told (Going c) d w j t m)
+        → on base lent (k x) (told (Refused Refusal.Outside c) d w j t m) ≡ on base lent (gather (n - i) (from + i) got >>= k) (told (Going c) d w j t m)
     unfolding gather on told fetch _>>=_ wrap32
     gather-outside h x =
-        rw (less, ← address) (sym (fetch-outside base staging window a 1 (λ b. gather (n - (i + 1)) (from + i + 1) (got ++ b) >>= k) (world d c w j t m) (not-there base w a 1 asked h _)))
+        rw (less, ← address) (sym (fetch-outside base lent window a 1 (λ b. gather (n - (i + 1)) (from + i + 1) (got ++ b) >>= k) (world d c w j t m) (not-there base w a 1 asked h _)))
 
     pub gather-inside : {o : ℕ} → p ≡ At o
-        → on base staging (gather (n - (i + 1)) (from + (i + 1)) (got ++ getD w o 0 ∷ []) >>= k) (told (Going c) d w j t m)
-        ≡ on base staging (gather (n - i) (from + i) got >>= k) (told (Going c) d w j t m)
+        → on base lent (gather (n - (i + 1)) (from + (i + 1)) (got ++ getD w o 0 ∷ []) >>= k) (told (Going c) d w j t m)
+        ≡ on base lent (gather (n - i) (from + i) got >>= k) (told (Going c) d w j t m)
     unfolding gather on told fetch _>>=_ wrap32 fetched bytesOf part
     gather-inside h =
         rw (less, ← address, ← add-assoc from i 1, at-index base w a 1 asked h)
-        (sym (fetch-inside base staging window a 1 (λ b. gather (n - (i + 1)) (from + i + 1) (got ++ b) >>= k) (world d c w j t m) (at-there base w a 1 asked h _)))
+        (sym (fetch-inside base lent window a 1 (λ b. gather (n - (i + 1)) (from + i + 1) (got ++ b) >>= k) (world d c w j t m) (at-there base w a 1 asked h _)))
 
-pub gather-end : (base staging : ℕ) (o : Out (Unit {0})) {A : Type 0} (k : List ℕ → Act A) (n i : ℕ) (b : List ℕ) (from : ℕ) → n ≡ i → length b ≡ i
-    → on base staging (k b) o ≡ on base staging (gather (n - i) from (take i b) >>= k) o
+pub gather-end : (base : ℕ) (lent : Lent) (o : Out (Unit {0})) {A : Type 0} (k : List ℕ → Act A) (n i : ℕ) (b : List ℕ) (from : ℕ) → n ≡ i → length b ≡ i
+    → on base lent (k b) o ≡ on base lent (gather (n - i) from (take i b) >>= k) o
 unfolding gather _>>=_
-gather-end base staging o k n i b from e h =
+gather-end base lent o k n i b from e h =
     let z : n - i ≡ 0 = omega arith in
     rw (z, take-all i b (omega arith))

@@ -13,31 +13,31 @@ use Rattle.flow.specs.Does.{beside, Answers, Does}
 module _ (d : Device) where
   pub answers-done : {A : Type 0} (a : A) → Answers (done a) d a d
   unfolding Answers go
-  answers-done a base staging mem used free = refl
+  answers-done a base lent mem used free = refl
 
   pub answers-ask : (f : Field) → Answers (ask f) d (holds f d) d
   unfolding Answers go ask
-  answers-ask f base staging mem used free = refl
+  answers-ask f base lent mem used free = refl
 
   -- a field gets a value, cut to its bits; and one within them
   pub does-cut : (f : Field) (v : ℕ) → Does (put f v) d (withField f (v % 2 ^ bitsOf f) d)
   unfolding Answers go put withDevice
-  does-cut f v base staging mem used free = refl
+  does-cut f v base lent mem used free = refl
 
   pub does-put : (f : Field) (v : ℕ) → v < 2 ^ bitsOf f → Does (put f v) d (withField f v d)
   unfolding Answers withDevice
-  does-put f v h base staging mem used free = put-does base staging (beside mem used free d) f v h
+  does-put f v h base lent mem used free = put-does base lent (beside mem used free d) f v h
 
   pub does-change : (f : Field) (g : ℕ → ℕ) → g (holds f d) < 2 ^ bitsOf f → Does (change f g) d (withField f (g (holds f d)) d)
   unfolding Answers withDevice
-  does-change f g h base staging mem used free = change-does base staging (beside mem used free d) f g h
+  does-change f g h base lent mem used free = change-does base lent (beside mem used free d) f g h
 
 -- ---- one act after another: it goes on where the first one ended, with its answer
 
 pub answers-bind : {A B : Type 0} (m : Act A) (f : A → Act B) (d e r : Device) (a : A) (b : B) → Answers m d a e → Answers (f a) e b r → Answers (m >>= f) d b r
 unfolding Answers
-answers-bind m f d e r a b h k base staging mem used free =
-    bind-ok base staging m f (beside mem used free d) (h base staging mem used free) ∙ k base staging mem used free
+answers-bind m f d e r a b h k base lent mem used free =
+    bind-ok base lent m f (beside mem used free d) (h base lent mem used free) ∙ k base lent mem used free
 
 pub answers-then : {A B : Type 0} (m : Act A) (k : Act B) (d e r : Device) (a : A) (b : B) → Answers m d a e → Answers k e b r → Answers (m >> k) d b r
 unfolding _>>_

@@ -3,7 +3,7 @@ use mathlib.Core.Path.{_≡_}
 use mathlib.Core.List.{List}
 use Prim.Native.Nat.{ℕ}
 use Rattle.rules.specs.Act.{Act}
-use Rattle.rules.specs.Carry.{World, ok, go}
+use Rattle.rules.specs.Carry.{World, ok, go, Lent}
 use Rattle.rules.specs.State.{Device}
 
 -- the device in a world
@@ -12,7 +12,7 @@ beside mem used free d = record { now = record { mem = mem; dev = d }; used = us
 
 -- from d the steps of the act lead to e, with answer a
 unfoldable pub Answers : {A : Type 0} → Act A → Device → A → Device → Type 0
-Answers act d a e = (base staging : ℕ) (mem used free : List ℕ) → go base staging act (beside mem used free d) ≡ ok a (beside mem used free e)
+Answers act d a e = (base : ℕ) (lent : Lent) (mem used free : List ℕ) → go base lent act (beside mem used free d) ≡ ok a (beside mem used free e)
 
 -- an act that answers nothing
 abbrev pub Does : Act (Unit {0}) → Device → Device → Type 0

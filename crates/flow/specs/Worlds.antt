@@ -5,7 +5,7 @@ use mathlib.Core.List.{List}
 use Prim.Native.Nat.{ℕ}
 use Rattle.rules.specs.Act.{Act, _>>=_}
 use Rattle.rules.specs.Calls.{worldOf, refusalNumber}
-use Rattle.rules.specs.Carry.{World, Out, ok, no, go}
+use Rattle.rules.specs.Carry.{World, Out, ok, no, go, Lent}
 use Rattle.rules.specs.State.{Device}
 use Rattle.flow.specs.declared.Flow.{Flow}
 use Rattle.flow.specs.declared.Step.{Step}
@@ -50,36 +50,36 @@ walked (On e) d w j = ok tt (worldOf d w j e)
 walked (Off r e) d w j = no (refusalNumber r) (worldOf d w j e)
 
 -- on with m after what came before, unless that was refused
-unfoldable pub on : ℕ → ℕ → {A : Type 0} → Act A → Out (Unit {0}) → Out A
-on base staging m (ok a u) = go base staging m u
-on base staging m (no n u) = no n u
+unfoldable pub on : ℕ → Lent → {A : Type 0} → Act A → Out (Unit {0}) → Out A
+on base lent m (ok a u) = go base lent m u
+on base lent m (no n u) = no n u
 
 -- ---- promises
 
 -- of a function that is lent journal and table
 abbrev pub OnTable : Act (Unit {0}) → Step → Step → List ℕ → List ℕ → List ℕ → List ℕ → Type 0
-OnTable act s r j j′ t t′ = (base staging : ℕ) (d : Device) (w m : List ℕ) → told r d w j′ t′ m ≡ on base staging act (told s d w j t m)
+OnTable act s r j j′ t t′ = (base : ℕ) (lent : Lent) (d : Device) (w m : List ℕ) → told r d w j′ t′ m ≡ on base lent act (told s d w j t m)
 
 -- of one that changes scalars only
 abbrev pub OnScalars : Act (Unit {0}) → Step → Step → Type 0
-OnScalars act s r = (base staging : ℕ) (d : Device) (w j t m : List ℕ) → told r d w j t m ≡ on base staging act (told s d w j t m)
+OnScalars act s r = (base : ℕ) (lent : Lent) (d : Device) (w j t m : List ℕ) → told r d w j t m ≡ on base lent act (told s d w j t m)
 
 -- of one that is lent majors
 abbrev pub OnMajors : Act (Unit {0}) → Step → Step → List ℕ → List ℕ → Type 0
-OnMajors act s r m m′ = (base staging : ℕ) (d : Device) (w j t : List ℕ) → told r d w j t m′ ≡ on base staging act (told s d w j t m)
+OnMajors act s r m m′ = (base : ℕ) (lent : Lent) (d : Device) (w j t : List ℕ) → told r d w j t m′ ≡ on base lent act (told s d w j t m)
 
 -- of one that reads the window, and is lent journal and table
 abbrev pub OnWindow : Act (Unit {0}) → ℕ → Step → Step → List ℕ → List ℕ → List ℕ → List ℕ → List ℕ → Type 0
-OnWindow act base s r w j j′ t t′ = (staging : ℕ) (d : Device) (m : List ℕ) → told r d w j′ t′ m ≡ on base staging act (told s d w j t m)
+OnWindow act base s r w j j′ t t′ = (lent : Lent) (d : Device) (m : List ℕ) → told r d w j′ t′ m ≡ on base lent act (told s d w j t m)
 
 -- of one that reads the window, and is lent all else
 abbrev pub OnRest : Act (Unit {0}) → ℕ → Step → Step → List ℕ → List ℕ → List ℕ → List ℕ → List ℕ → List ℕ → List ℕ → Type 0
-OnRest act base s r w j j′ t t′ m m′ = (staging : ℕ) (d : Device) → told r d w j′ t′ m′ ≡ on base staging act (told s d w j t m)
+OnRest act base s r w j j′ t t′ m m′ = (lent : Lent) (d : Device) → told r d w j′ t′ m′ ≡ on base lent act (told s d w j t m)
 
 -- of one that reads the window and answers: whatever is done with its answer
 abbrev pub Gives : {A : Type 0} → Act A → ℕ → Step → Step → A → List ℕ → Type 0
-Gives {A} act base s r a w = (staging : ℕ) (d : Device) (j t m : List ℕ) (k : A → Act (Unit {0})) → on base staging (k a) (told r d w j t m) ≡ on base staging (act >>= k) (told s d w j t m)
+Gives {A} act base s r a w = (lent : Lent) (d : Device) (j t m : List ℕ) (k : A → Act (Unit {0})) → on base lent (k a) (told r d w j t m) ≡ on base lent (act >>= k) (told s d w j t m)
 
 -- of one that is lent window and journal only, from the journal's end `at` on
 abbrev pub Walks : Act (Unit {0}) → ℕ → ℕ → Walk → List ℕ → List ℕ → List ℕ → List ℕ → Type 0
-Walks act base at r w w′ j j′ = (staging : ℕ) (d : Device) → walked r d w′ j′ ≡ go base staging act (worldOf d w j at)
+Walks act base at r w w′ j j′ = (lent : Lent) (d : Device) → walked r d w′ j′ ≡ go base lent act (worldOf d w j at)

@@ -8,7 +8,7 @@ use lib.ListN.{length}
 use borrow.Author.Tests.{eq-eqb, ne-eqb}
 use Rattle.rules.specs.Act.{Act, done, ask, _>>=_, _>>_}
 use Rattle.rules.specs.Bytes.{part}
-use Rattle.rules.specs.Carry.{World, Out, ok, go}
+use Rattle.rules.specs.Carry.{World, Out, ok, go, Lent}
 use Rattle.rules.specs.Minor.{tcdOf, ssize, dsize, moveSizes, moveUnequal, transfer, minorBytes, minorEnd, offset, sourceOffset, destOffset, pass}
 use Rattle.rules.specs.Words.{countOf, sizeOf, wholes}
 use Rattle.rules.specs.State.{Device}
@@ -47,7 +47,7 @@ module _ (t : Tcd) (n : ℕ) {from to reads : ℕ} {step : Steps} (p : from ≡ 
 abbrev pub ended : Flow → ℕ → Flow
 ended c e = record { cr = c .cr; erq = c .erq; int = c .int; kick = c .kick; at = e }
 
-module _ (base staging : ℕ) (d : Device) (c : Flow) (w j t m : List ℕ) (ch : ℕ) {x : Tcd} (read : x ≡ tcdOf (part t (32 * ch) 32)) (fits : 32 * ch + 32 ≤ length t) where
+module _ (base : ℕ) (lent : Lent) (d : Device) (c : Flow) (w j t m : List ℕ) (ch : ℕ) {x : Tcd} (read : x ≡ tcdOf (part t (32 * ch) 32)) (fits : 32 * ch + 32 ≤ length t) where
   abbrev start : World
   start = world d c w j t m
 
@@ -60,39 +60,39 @@ module _ (base staging : ℕ) (d : Device) (c : Flow) (w j t m : List ℕ) (ch :
   abbrev rest : ℕ × ℕ → Act Bool
   rest p = finishing p >> done true
 
-  body : go base staging (cond (eqb (countOf (x .citer)) 0) (done false) (moving >>= rest)) start ≡ go base staging (pass ch) start
+  body : go base lent (cond (eqb (countOf (x .citer)) 0) (done false) (moving >>= rest)) start ≡ go base lent (pass ch) start
   unfolding pass told on go ask _>>=_
-  body = described base staging (Step.Going c) d w j t m ch _ read fits
+  body = described base lent (Step.Going c) d w j t m ch _ read fits
 
-  pub pass-idle : {n : ℕ} → n ≡ countOf (x .citer) → n ≡ 0 → passed Idle c d w j t m ≡ go base staging (pass ch) start
+  pub pass-idle : {n : ℕ} → n ≡ countOf (x .citer) → n ≡ 0 → passed Idle c d w j t m ≡ go base lent (pass ch) start
   unfolding passed go
   pass-idle counted e = rw (eq-eqb (countOf (x .citer)) 0 (sym counted ∙ e)) at body
 
-  module _ {n : ℕ} (counted : n ≡ countOf (x .citer)) (some : n ≡ 0 → ⊥) (r : Moved) (w′ j′ : List ℕ) (did : moved r (over d c t m) w′ j′ ≡ go base staging moving start) where
-    working : (q : Moved) → r ≡ q → andThen (moved q (over d c t m) w′ j′) (λ p. go base staging (rest p)) ≡ go base staging (pass ch) start
+  module _ {n : ℕ} (counted : n ≡ countOf (x .citer)) (some : n ≡ 0 → ⊥) (r : Moved) (w′ j′ : List ℕ) (did : moved r (over d c t m) w′ j′ ≡ go base lent moving start) where
+    working : (q : Moved) → r ≡ q → andThen (moved q (over d c t m) w′ j′) (λ p. go base lent (rest p)) ≡ go base lent (pass ch) start
     working q h =
-        ap (λ (o : Out (ℕ × ℕ)). andThen o (λ p. go base staging (rest p))) (sym (ap (λ (y : Moved). moved y (over d c t m) w′ j′) h) ∙ did)
-        ∙ sym (go-bind base staging moving rest start)
+        ap (λ (o : Out (ℕ × ℕ)). andThen o (λ p. go base lent (rest p))) (sym (ap (λ (y : Moved). moved y (over d c t m) w′ j′) h) ∙ did)
+        ∙ sym (go-bind base lent moving rest start)
         ∙ rw (ne-eqb (countOf (x .citer)) 0 (λ z. some (counted ∙ z))) at body
 
-    pub pass-not : {k : Refusal} {e : ℕ} → r ≡ Moved.Not k e → passed (Ran (Step.Refused k (ended c e))) c d w′ j′ t m ≡ go base staging (pass ch) start
+    pub pass-not : {k : Refusal} {e : ℕ} → r ≡ Moved.Not k e → passed (Ran (Step.Refused k (ended c e))) c d w′ j′ t m ≡ go base lent (pass ch) start
     unfolding passed moved andThen
     pass-not {k} {e} h = working (Moved.Not k e) h
 
-    ran : (q : Step) (w″ j″ t″ m″ : List ℕ) → passed (Ran q) c d w″ j″ t″ m″ ≡ on base staging (done true) (told q d w″ j″ t″ m″)
+    ran : (q : Step) (w″ j″ t″ m″ : List ℕ) → passed (Ran q) c d w″ j″ t″ m″ ≡ on base lent (done true) (told q d w″ j″ t″ m″)
     unfolding passed on told go
     ran (Step.Going f) w″ j″ t″ m″ = refl
     ran (Step.Refused k f) w″ j″ t″ m″ = refl
 
     pub pass-to : {s₀ d₀ e s₁ d₁ : ℕ} → r ≡ Moved.To s₀ d₀ e → s₁ ≡ offset (sourceOffset (c .cr) x) x s₀ → d₁ ≡ offset (destOffset (c .cr) x) x d₀
-        → (q : Step) (w″ j″ t″ m″ : List ℕ) → told q d w″ j″ t″ m″ ≡ on base staging (minorEnd ch x s₁ d₁) (told (Step.Going (ended c e)) d w′ j′ t m)
-        → passed (Ran q) c d w″ j″ t″ m″ ≡ go base staging (pass ch) start
+        → (q : Step) (w″ j″ t″ m″ : List ℕ) → told q d w″ j″ t″ m″ ≡ on base lent (minorEnd ch x s₁ d₁) (told (Step.Going (ended c e)) d w′ j′ t m)
+        → passed (Ran q) c d w″ j″ t″ m″ ≡ go base lent (pass ch) start
     unfolding moved andThen told on
     pass-to {s₀} {d₀} {e} {s₁} {d₁} h p₁ p₂ q w″ j″ t″ m″ k =
         let o : Out (Unit {0}) = ok tt (world d (ended c e) w′ j′ t m) in
         ran q w″ j″ t″ m″
-        ∙ ap (on base staging (done true)) k
-        ∙ sym (on-then base staging (minorEnd ch x s₁ d₁) (done true) o)
-        ∙ ap (λ (y : ℕ). on base staging (minorEnd ch x y d₁ >> done true) o) p₁
-        ∙ ap (λ (y : ℕ). on base staging (minorEnd ch x (offset (sourceOffset (c .cr) x) x s₀) y >> done true) o) p₂
+        ∙ ap (on base lent (done true)) k
+        ∙ sym (on-then base lent (minorEnd ch x s₁ d₁) (done true) o)
+        ∙ ap (λ (y : ℕ). on base lent (minorEnd ch x y d₁ >> done true) o) p₁
+        ∙ ap (λ (y : ℕ). on base lent (minorEnd ch x (offset (sourceOffset (c .cr) x) x s₀) y >> done true) o) p₂
         ∙ working (Moved.To s₀ d₀ e) h

@@ -6,7 +6,7 @@ use mathlib.Core.Path.{_≡_}
 use Prim.Native.Nat.{ℕ}
 use Rattle.rules.specs.Act.{Act}
 use Rattle.rules.specs.Calls.{refusalNumber}
-use Rattle.rules.specs.Carry.{Out, ok, no, go}
+use Rattle.rules.specs.Carry.{Out, ok, no, go, Lent}
 use Rattle.rules.specs.State.{Device}
 use Rattle.flow.specs.Worlds.{world}
 use Rattle.flow.specs.declared.Flow.{Flow}
@@ -20,6 +20,6 @@ passed Idle c d w j t m = ok false (world d c w j t m)
 passed (Ran (Step.Going f)) c d w j t m = ok true (world d f w j t m)
 passed (Ran (Step.Refused r f)) c d w j t m = no (refusalNumber r) (world d f w j t m)
 
--- with so many bytes of staging
-abbrev pub Passes : Act Bool → ℕ → ℕ → Flow → Passed → List ℕ → List ℕ → List ℕ → List ℕ → List ℕ → List ℕ → List ℕ → List ℕ → Type 0
-Passes act base staging c r w w′ j j′ t t′ m m′ = (d : Device) → passed r c d w′ j′ t′ m′ ≡ go base staging act (world d c w j t m)
+-- with what is lent
+abbrev pub Passes : Act Bool → ℕ → Lent → Flow → Passed → List ℕ → List ℕ → List ℕ → List ℕ → List ℕ → List ℕ → List ℕ → List ℕ → Type 0
+Passes act base lent c r w w′ j j′ t t′ m m′ = (d : Device) → passed r c d w′ j′ t′ m′ ≡ go base lent act (world d c w j t m)

@@ -8,6 +8,7 @@ use rules::Tcd;
 ghost use mathlib.Core.Path.{_≡_};
 ghost use Prim.Native.Nat.{_≤_, _<_, _^_};
 ghost use lib.ListN.{length};
+ghost use Rattle.rules.specs.Carry.{lending};
 ghost use Rattle.rules.specs.Minor.{transfer, pass};
 ghost use Rattle.stager.specs.Stages.{Stages};
 ghost use Rattle.minor.specs.Passes.{Passes};
@@ -42,7 +43,7 @@ fn transfer(
     at: usize,
 ) -> Moved
     requires { ⌜ n ≤ 2 ^ 22 ⌝ }
-    ensures { λ r. ⌜ Stages (transfer t n) base (length (now (staging .entry))) at r (now (window .entry)) (now (window .exit)) (now (journal .entry)) (now (journal .exit)) ⌝ }
+    ensures { λ r. ⌜ Stages (transfer t n) base (lending (length (now (staging .entry)))) at r (now (window .entry)) (now (window .exit)) (now (journal .entry)) (now (journal .exit)) ⌝ }
 {
     let ssize = words::size_of(t.attr / 0x100);
     let dsize = words::size_of(t.attr);
@@ -93,7 +94,7 @@ pub fn dma_minor(
     journal: &mut [u8],
 ) -> Passed
     requires { ⌜ ch < 64 ⌝ }
-    ensures { λ r. ⌜ Passes (pass ch) base (length (now (staging .entry))) c r (now (window .entry)) (now (window .exit)) (now (journal .entry)) (now (journal .exit)) (now (table .entry)) (now (table .exit)) (now (majors .entry)) (now (majors .exit)) ⌝ }
+    ensures { λ r. ⌜ Passes (pass ch) base (lending (length (now (staging .entry)))) c r (now (window .entry)) (now (window .exit)) (now (journal .entry)) (now (journal .exit)) (now (table .entry)) (now (table .exit)) (now (majors .entry)) (now (majors .exit)) ⌝ }
 {
     let t = finish::read_tcd(table, ch);
     if words::count_of(t.citer) == 0 {

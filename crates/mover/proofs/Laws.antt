@@ -9,7 +9,7 @@ use native.Mathlib.Omega.{arith}
 use Rattle.rules.specs.Act.{Act, window, _>>=_, _>>_, nothing, fetch, store}
 use Rattle.rules.specs.Bytes.{number, part}
 use Rattle.rules.specs.Calls.{worldOf}
-use Rattle.rules.specs.Carry.{Out, go, bytesOf, fetched}
+use Rattle.rules.specs.Carry.{Out, go, bytesOf, fetched, Lent}
 use Rattle.rules.specs.Minor.{moveUnit, moveUnits, moveSizes}
 use Rattle.rules.specs.Words.{wrap32, unitOf, moduloAdd}
 use Rattle.rules.specs.State.{Device}
@@ -27,17 +27,17 @@ use Rattle.mover.specs.declared.Moved.the-variants.{To}
 
 -- ---- a unit, by where it is read
 
-module _ (base staging : ℕ) (dev : Device) (w j : List ℕ) (e u a b : ℕ) {p : Place} (asked : p ≡ placeOf base w a u) where
-  pub unit-outside : p ≡ Outside → walked (Walk.Off Refusal.Outside e) dev w j ≡ go base staging (moveUnit u a b) (worldOf dev w j e)
+module _ (base : ℕ) (lent : Lent) (dev : Device) (w j : List ℕ) (e u a b : ℕ) {p : Place} (asked : p ≡ placeOf base w a u) where
+  pub unit-outside : p ≡ Outside → walked (Walk.Off Refusal.Outside e) dev w j ≡ go base lent (moveUnit u a b) (worldOf dev w j e)
   unfolding walked moveUnit fetch _>>=_
-  unit-outside h = sym (fetch-outside base staging window a u (λ v. store window b u (number v)) (worldOf dev w j e) (not-there base w a u asked h dev))
+  unit-outside h = sym (fetch-outside base lent window a u (λ v. store window b u (number v)) (worldOf dev w j e) (not-there base w a u asked h dev))
 
-  pub unit-read : {i v : ℕ} {r : Out (Unit {0})} → p ≡ At i → v ≡ number (part w i u) → r ≡ go base staging (store window b u v) (worldOf dev w j e)
-      → r ≡ go base staging (moveUnit u a b) (worldOf dev w j e)
+  pub unit-read : {i v : ℕ} {r : Out (Unit {0})} → p ≡ At i → v ≡ number (part w i u) → r ≡ go base lent (store window b u v) (worldOf dev w j e)
+      → r ≡ go base lent (moveUnit u a b) (worldOf dev w j e)
   unfolding moveUnit fetch _>>=_ fetched bytesOf
   unit-read h got did =
       did ∙ rw (got, at-index base w a u asked h)
-      (sym (fetch-inside base staging window a u (λ v. store window b u (number v)) (worldOf dev w j e) (at-there base w a u asked h dev)))
+      (sym (fetch-inside base lent window a u (λ v. store window b u (number v)) (worldOf dev w j e) (at-there base w a u asked h dev)))
 
 -- ---- units in turn: number k of `count`
 
@@ -48,12 +48,12 @@ units-on count k u s d h p q =
     let e : count - k ≡ suc (count - (k + 1)) = omega arith in
     rw (e, p, q, ap (λ (i : ℕ). moveUnits (count - (k + 1)) i u s d) (add-one k))
 
-pub units-end : (base staging : ℕ) (dev : Device) (count k u s d e : ℕ) (w j : List ℕ) {o : Out (Unit {0})} → count ≤ k
-    → go base staging (moveUnits (count - k) k u s d) (worldOf dev w j e) ≡ o → walked (Walk.On e) dev w j ≡ o
+pub units-end : (base : ℕ) (lent : Lent) (dev : Device) (count k u s d e : ℕ) (w j : List ℕ) {o : Out (Unit {0})} → count ≤ k
+    → go base lent (moveUnits (count - k) k u s d) (worldOf dev w j e) ≡ o → walked (Walk.On e) dev w j ≡ o
 unfolding moveUnits walked go
-units-end base staging dev count k u s d e w j h rest =
+units-end base lent dev count k u s d e w j h rest =
     let z : 0 ≡ count - k = omega arith in
-    ap (λ (n : ℕ). go base staging (moveUnits n k u s d) (worldOf dev w j e)) z ∙ rest
+    ap (λ (n : ℕ). go base lent (moveUnits n k u s d) (worldOf dev w j e)) z ∙ rest
 
 -- one unit is a whole size of its own
 alone : (u a b : ℕ) → moveUnit u a b >> nothing ≡ moveUnit u a b
@@ -86,11 +86,11 @@ module _ (left soff smod doff dmod size s d : ℕ) (more : left ≡ 0 → ⊥) {
   unfolding unitOf
   single-on h k ls ld = ap (λ (m : Act (Unit {0})). m >> after) (sym (one-unit size s d h ls ld)) ∙ sizes-on size (sym (min-eq-left k))
 
-pub sizes-end : (base staging : ℕ) (dev : Device) (left soff smod doff dmod size s d e : ℕ) (w j : List ℕ) {o : Out (ℕ × ℕ)} → left ≡ 0
-    → go base staging (moveSizes left soff smod doff dmod size s d) (worldOf dev w j e) ≡ o → moved (To s d e) dev w j ≡ o
+pub sizes-end : (base : ℕ) (lent : Lent) (dev : Device) (left soff smod doff dmod size s d e : ℕ) (w j : List ℕ) {o : Out (ℕ × ℕ)} → left ≡ 0
+    → go base lent (moveSizes left soff smod doff dmod size s d) (worldOf dev w j e) ≡ o → moved (To s d e) dev w j ≡ o
 unfolding moveSizes moved go
-sizes-end base staging dev left soff smod doff dmod size s d e w j z rest =
-    ap (λ (n : ℕ). go base staging (moveSizes n soff smod doff dmod size s d) (worldOf dev w j e)) (sym z) ∙ rest
+sizes-end base lent dev left soff smod doff dmod size s d e w j z rest =
+    ap (λ (n : ℕ). go base lent (moveSizes n soff smod doff dmod size s d) (worldOf dev w j e)) (sym z) ∙ rest
 
 -- ---- a size that is none of 1, 2 and 4
 

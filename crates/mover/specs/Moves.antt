@@ -4,7 +4,7 @@ use mathlib.Core.Path.{_≡_}
 use Prim.Native.Nat.{ℕ}
 use Rattle.rules.specs.Act.{Act}
 use Rattle.rules.specs.Calls.{worldOf, refusalNumber}
-use Rattle.rules.specs.Carry.{Out, ok, no, go}
+use Rattle.rules.specs.Carry.{Out, ok, no, go, Lent}
 use Rattle.rules.specs.State.{Device}
 use Rattle.mover.specs.declared.Moved.{Moved}
 use Rattle.mover.specs.declared.Moved.the-variants.{To, Not}
@@ -16,4 +16,4 @@ moved (Not r e) d w j = no (refusalNumber r) (worldOf d w j e)
 
 -- from the journal's end `at` on
 abbrev pub Moves : Act (ℕ × ℕ) → ℕ → ℕ → Moved → List ℕ → List ℕ → List ℕ → List ℕ → Type 0
-Moves act base at r w w′ j j′ = (staging : ℕ) (d : Device) → moved r d w′ j′ ≡ go base staging act (worldOf d w j at)
+Moves act base at r w w′ j j′ = (lent : Lent) (d : Device) → moved r d w′ j′ ≡ go base lent act (worldOf d w j at)

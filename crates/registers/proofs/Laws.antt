@@ -10,7 +10,7 @@ use lib.Dec.{eqb, ltb}
 use lib.ListN.{length, take, drop}
 use Rattle.rules.specs.Act.{Act}
 use Rattle.rules.specs.Calls.{Asked, write, actOf, badSize, badJournal, isNone, orNothing, check, wrong, wrongRead, levelled, Told, told, toldActed, toldAfter, stagingAfter, toldReading, toldRead, refusalNumber, orZero, worldOf, after, afterRead}
-use Rattle.rules.specs.Carry.{ok, leave, perform}
+use Rattle.rules.specs.Carry.{ok, leave, perform, lending}
 use Rattle.rules.specs.Registers.{within, inBlocks, inTable, blockOf, offsetOf, dmaRead, dmaWrite, readIn, readAt, writeIn, writeAt, controllerWrite, pastTable, pastWord}
 use Rattle.rules.specs.declared.Acted.{Acted}
 use Rattle.rules.specs.State.{Device}
@@ -134,7 +134,7 @@ module _ (m : Act Heard) (base : ℕ) (d : Device) (w staging j : List ℕ) (use
   told-no Refusal.NothingStands = refl
   told-no Refusal.Damaged = refl
 
-  pub accepts : {n : ℕ} {x : Told} → n ≡ 0 → x ≡ toldAfter staging used (perform base (length staging) m (worldOf d w j used)) → x ≡ asked n m base d w staging j used
+  pub accepts : {n : ℕ} {x : Told} → n ≡ 0 → x ≡ toldAfter staging used (perform base (lending (length staging)) m (worldOf d w j used)) → x ≡ asked n m base d w staging j used
   unfolding asked
   accepts e q = rw e q
 
@@ -150,7 +150,7 @@ unfolding asked after
 asked-after c base d w staging j used e = by (wrong base (length w) (length j) used c)
   where
     by : (n : ℕ) → asked n (actOf c) base d w staging j used ≡ elim n [
-      | zero ↦ toldAfter (stagingAfter c staging) used (perform base (length staging) (actOf c) (worldOf d w j used))
+      | zero ↦ toldAfter (stagingAfter c staging) used (perform base (lending (length staging)) (actOf c) (worldOf d w j used))
       | suc k ↦ told (suc k) Heard.Nothing d w staging j used
     ]
     by zero = rw e refl
@@ -231,6 +231,6 @@ module _ (d : Device) (address size : ℕ) where
 
 pub heard-made : (base : ℕ) (m : Act Heard) (d e : Device) (w staging j : List ℕ) (used : ℕ) (h : Heard) {x : Told} → Answers m d h e
     → x ≡ toldAfter staging used (leave (worldOf d w j used) (ok h (worldOf e w j used)))
-    → x ≡ toldAfter staging used (perform base (length staging) m (worldOf d w j used))
+    → x ≡ toldAfter staging used (perform base (lending (length staging)) m (worldOf d w j used))
 unfolding perform Answers
-heard-made base m d e w staging j used h a q = rw (a base (length staging) w (take used j) (drop used j)) q
+heard-made base m d e w staging j used h a q = rw (a base (lending (length staging)) w (take used j) (drop used j)) q

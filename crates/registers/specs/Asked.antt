@@ -8,7 +8,7 @@ use lib.Dec.{ltb}
 use lib.ListN.{length}
 use Rattle.rules.specs.Act.{Act}
 use Rattle.rules.specs.Calls.{Asked, ack, badJournal, isNone, orNothing, check, levelled, Told, told, toldActed, toldHeard, toldAfter, ToldRead, toldRead, orZero, worldOf, after}
-use Rattle.rules.specs.Carry.{perform}
+use Rattle.rules.specs.Carry.{perform, lending}
 use Rattle.rules.specs.Registers.{within, inTable}
 use Rattle.rules.specs.declared.Acknowledged.{Acknowledged}
 use Rattle.rules.specs.declared.Acted.{Acted}
@@ -39,7 +39,7 @@ readSo (suc n) o = toldRead (suc n) 0
 
 -- the number of what is wrong, 0 for nothing, and the act
 unfoldable pub asked : ℕ → Act Heard → ℕ → Device → List ℕ → List ℕ → List ℕ → ℕ → Told
-asked zero m base d w staging j used = toldAfter staging used (perform base (length staging) m (worldOf d w j used))
+asked zero m base d w staging j used = toldAfter staging used (perform base (lending (length staging)) m (worldOf d w j used))
 asked (suc n) m base d w staging j used = told (suc n) Heard.Nothing d w staging j used
 
 -- of a write within a block: what it does there, if there is such a register, and whether it is refused by 4
@@ -56,7 +56,7 @@ pub record DidNoStore (d e : Device) (touched : Touched) (used : ℕ) (j : List 
 
 abbrev pub SettlesDoing : Device → Device → ℕ → Acted → List ℕ → List ℕ → Type 0
 SettlesDoing d e used r j j′ = (act : Act (Unit {0})) → Does act d e → (base : ℕ) (w staging : List ℕ)
-    → toldActed r w staging j′ ≡ toldAfter staging used (perform base (length staging) (levelled act) (worldOf d w j used))
+    → toldActed r w staging j′ ≡ toldAfter staging used (perform base (lending (length staging)) (levelled act) (worldOf d w j used))
 
 -- ---- the calls
 

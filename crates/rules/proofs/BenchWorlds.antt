@@ -7,7 +7,7 @@ use native.Mathlib.Omega.{arith}
 use lib.ListN.{length, take, drop, length-append, take-append-drop}
 use lib.Seq.{length-take-le, take-append-seam, drop-append-seam}
 use Rattle.rules.specs.Act.{Act, done}
-use Rattle.rules.specs.Carry.{World, After, made, unmade, cleared, perform}
+use Rattle.rules.specs.Carry.{World, After, made, unmade, cleared, perform, lending, Lent}
 use Rattle.rules.specs.TakeBack.{takeBack}
 use Rattle.rules.specs.Calls.{Asked, actOf, wrong, wrongBack, told, stagingAfter, worldOf, toldAfter, after, heardNothing, afterBack, afterRead}
 use Rattle.rules.specs.declared.Heard.{Heard}
@@ -79,11 +79,11 @@ before-same base (amiss c b window staging journal used bad) u v h = refl
 before-same base (amissBack b window journal used bad) u v h = refl
 
 -- of a call that is never made its staging and its tree do not matter
-abbrev stagingOf : RowCall → ℕ
-stagingOf (act c staging) = length staging
-stagingOf (read address size) = 0
-stagingOf (amiss c b window staging journal used bad) = 0
-stagingOf (amissBack b window journal used bad) = 0
+abbrev lentTo : RowCall → Lent
+lentTo (act c staging) = lending (length staging)
+lentTo (read address size) = lending 0
+lentTo (amiss c b window staging journal used bad) = lending 0
+lentTo (amissBack b window journal used bad) = lending 0
 
 abbrev treeOf : RowCall → Act Heard
 treeOf (act c staging) = actOf c
@@ -92,32 +92,32 @@ treeOf (amiss c b window staging journal used bad) = done Heard.Nothing
 treeOf (amissBack b window journal used bad) = done Heard.Nothing
 
 abbrev pub callOf : ℕ → RowCall → Call Heard
-callOf base c = record { before = before base c; before-same = before-same base c; staging = stagingOf c; act = treeOf c }
+callOf base c = record { before = before base c; before-same = before-same base c; lent = lentTo c; act = treeOf c }
 
 module _ (base : ℕ) (c : Asked) (staging : List ℕ) (u : World) where
-  performed : (o : After Heard World) → perform base (length staging) (actOf c) u ≡ o → ended (toldAfter (stagingAfter c staging) (length (u .used)) o) ≡ carried (λ a. a) heldOf o
+  performed : (o : After Heard World) → perform base (lending (length staging)) (actOf c) u ≡ o → ended (toldAfter (stagingAfter c staging) (length (u .used)) o) ≡ carried (λ a. a) heldOf o
   unfolding toldAfter cleared
   performed (made heard v) e = refl
-  performed (unmade zero v) e = absurd (omega (arith, act-number base (length staging) (actOf c) u zero v e))
+  performed (unmade zero v) e = absurd (omega (arith, act-number base (lending (length staging)) (actOf c) u zero v e))
   performed (unmade (suc n) v) e =
       ap (λ (k : ℕ). unmade (suc n) (record { device = v .now .dev; window = v .now .mem; journal = v .used ++ v .free; used = k }))
-      (sym (ap (λ (w : World). length (w .used)) (refused base (length staging) (actOf c) u (suc n) v e)))
+      (sym (ap (λ (w : World). length (w .used)) (refused base (lending (length staging)) (actOf c) u (suc n) v e)))
 
   act-through : ended (after c base (u .now .dev) (u .now .mem) staging (u .used ++ u .free) (length (u .used))) ≡ carried (λ a. a) heldOf (makeCall base (callOf base (act c staging)) u)
   unfolding after makeCall
   act-through =
       subst₂ (λ n v. ended (elim (wrong base (length (u .now .mem)) n (length (u .used)) c) [
-        | zero ↦ toldAfter (stagingAfter c staging) (length (u .used)) (perform base (length staging) (actOf c) v)
+        | zero ↦ toldAfter (stagingAfter c staging) (length (u .used)) (perform base (lending (length staging)) (actOf c) v)
         | suc n ↦ told (suc n) Heard.Nothing (u .now .dev) (u .now .mem) staging (u .used ++ u .free) (length (u .used))
       ]) ≡ carried (λ a. a) heldOf (makeCall base (callOf base (act c staging)) u))
       (sym (length-append (u .used) (u .free))) (sym (world-held u)) (by-number (wrong base (length (u .now .mem)) (total u) (length (u .used)) c))
     where
       by-number : (n : ℕ)
           → ended (elim n [
-            | zero ↦ toldAfter (stagingAfter c staging) (length (u .used)) (perform base (length staging) (actOf c) u)
+            | zero ↦ toldAfter (stagingAfter c staging) (length (u .used)) (perform base (lending (length staging)) (actOf c) u)
             | suc n ↦ told (suc n) Heard.Nothing (u .now .dev) (u .now .mem) staging (u .used ++ u .free) (length (u .used))
-          ]) ≡ carried (λ a. a) heldOf (elim (refusal n) [ none ↦ perform base (length staging) (actOf c) u | some n ↦ unmade n u ])
-      by-number zero = performed (perform base (length staging) (actOf c) u) refl
+          ]) ≡ carried (λ a. a) heldOf (elim (refusal n) [ none ↦ perform base (lending (length staging)) (actOf c) u | some n ↦ unmade n u ])
+      by-number zero = performed (perform base (lending (length staging)) (actOf c) u) refl
       by-number (suc n) = refl
 
 module _ (base : ℕ) where
@@ -162,8 +162,8 @@ module _ (base : ℕ) where
   unfolding makeCall
   make-lasts {n} {k} c u h = checked (before base c u)
     where
-      checked : (b : Option ℕ) → Ending {A = Heard} (Lasts n k) (elim b [ none ↦ perform base (stagingOf c) (treeOf c) u | some i ↦ unmade i u ])
-      checked none = perform-lasts base (stagingOf c) (treeOf c) u h
+      checked : (b : Option ℕ) → Ending {A = Heard} (Lasts n k) (elim b [ none ↦ perform base (lentTo c) (treeOf c) u | some i ↦ unmade i u ])
+      checked none = perform-lasts base (lentTo c) (treeOf c) u h
       checked (some i) = h
 
 -- ---- its rows

@@ -11,7 +11,7 @@ use lib.ListN.{length, take, drop, replicate, length-append, length-drop, length
 use lib.Seq.{length-take-le}
 use Rattle.rules.specs.Act.{Act, Endless, _>>=_}
 use Rattle.rules.specs.With.{withTable}
-use Rattle.rules.specs.Carry.{Machine, World, ok, no, linesOf, go, After, made, unmade, lastLines, cleared, leave, perform, undo}
+use Rattle.rules.specs.Carry.{Machine, World, ok, no, linesOf, go, After, made, unmade, lastLines, cleared, leave, perform, undo, lending}
 use Rattle.rules.specs.TakeBack.{decodeAll, takeBack}
 use Rattle.rules.specs.Calls.{Asked, write, inputs, pending, run, service, ack, actOf, badWindow, badJournal, check, wrong, wrongBack, Told, told, stagingAfter, worldOf, toldAfter, after, heardNothing, afterBack, ToldRead, toldRead, afterRead}
 use Rattle.rules.specs.State.{Device}
@@ -84,19 +84,19 @@ module _ (base : ℕ) (d : Device) (window journal : List ℕ) (used : ℕ) wher
       u : World
       u = worldOf d window journal used
 
-      by-end : (o : After Heard World) → perform base (length staging) (actOf c) u ≡ o → AsGiven d window journal used (toldAfter (stagingAfter c staging) used o)
+      by-end : (o : After Heard World) → perform base (lending (length staging)) (actOf c) u ≡ o → AsGiven d window journal used (toldAfter (stagingAfter c staging) used o)
       by-end (made heard v) e = unfold toldAfter in tt
       by-end (unmade zero v) e = unfold toldAfter in tt
       by-end (unmade (suc n) v) e =
           unfold toldAfter cleared in
-          subst (λ w. AsGiven d window journal used (toldAfter (stagingAfter c staging) used (unmade (suc n) w))) (sym (refused base (length staging) (actOf c) u (suc n) v e))
+          subst (λ w. AsGiven d window journal used (toldAfter (stagingAfter c staging) used (unmade (suc n) w))) (sym (refused base (lending (length staging)) (actOf c) u (suc n) v e))
           (refl, refl, refl, take-cleared used journal, length-cleared used journal)
 
       by-number : (n : ℕ) → AsGiven d window journal used (elim n [
-        | zero ↦ toldAfter (stagingAfter c staging) used (perform base (length staging) (actOf c) u)
+        | zero ↦ toldAfter (stagingAfter c staging) used (perform base (lending (length staging)) (actOf c) u)
         | suc n ↦ told (suc n) Heard.Nothing d window staging journal used
       ])
-      by-number zero = by-end (perform base (length staging) (actOf c) u) refl
+      by-number zero = by-end (perform base (lending (length staging)) (actOf c) u) refl
       by-number (suc n) = (refl, refl, refl, refl, refl)
 
   pub back-as-given : AsGiven d window journal used (afterBack base d window journal used)
@@ -170,10 +170,10 @@ rolledBack base d used v =
 module _ (c : Asked) (base : ℕ) (d : Device) (window staging journal : List ℕ) (used : ℕ) (good : Good base (record { mem = window; dev = d }))
     (right : wrong base (length window) (length journal) used c ≡ 0)
   where
-    records-undone : {A : Type 0} (m : Act A) (n : ℕ) (v : World) → go base (length staging) m (worldOf d window journal used) ≡ no n v
+    records-undone : {A : Type 0} (m : Act A) (n : ℕ) (v : World) → go base (lending (length staging)) m (worldOf d window journal used) ≡ no n v
         → rolledBack base d used v ≡ record { mem = window; dev = d }
     records-undone m n v e =
-        let r = rolled-back base (worldOf d window journal used) good (length staging) m n v e in
+        let r = rolled-back base (worldOf d window journal used) good (lending (length staging)) m n v e in
         let log = r .0 in
         let front : length (take used journal) ≡ used = length-take-le used journal (used-within base (length window) (length journal) used c right) in
         let count : (length (v .used) - used) / 16 ≡ length log =
@@ -183,20 +183,20 @@ module _ (c : Asked) (base : ℕ) (d : Device) (window staging journal : List �
         ap₂ (λ k i. decodeAll k (drop i (v .used))) count (sym front) ∙ r .2 in
         ap (λ g. undo base g (record { mem = v .now .mem; dev = withTable d (v .now .dev .table) })) records ∙ r .3
 
-    told-refused : (n : ℕ) → perform base (length staging) (actOf c) (worldOf d window journal used) ≡ unmade n (cleared (worldOf d window journal used))
+    told-refused : (n : ℕ) → perform base (lending (length staging)) (actOf c) (worldOf d window journal used) ≡ unmade n (cleared (worldOf d window journal used))
         → after c base d window staging journal used ≡ told n Heard.Nothing d window (stagingAfter c staging) (take used journal ++ replicate (length journal - used) 0) used
     unfolding after cleared toldAfter
     told-refused n e = rw (right, after, e, toldAfter, length-drop used journal)
 
     -- an act refused at a step: undoing its records gives back window and device
-    pub rolls-back : (n : ℕ) (v : World) → go base (length staging) (actOf c) (worldOf d window journal used) ≡ no n v
+    pub rolls-back : (n : ℕ) (v : World) → go base (lending (length staging)) (actOf c) (worldOf d window journal used) ≡ no n v
         → (after c base d window staging journal used ≡ told n Heard.Nothing d window (stagingAfter c staging) (take used journal ++ replicate (length journal - used) 0) used)
         × (rolledBack base d used v ≡ record { mem = window; dev = d })
     unfolding perform
     rolls-back n v e = (told-refused n (ap (leave (worldOf d window journal used)) e ∙ leave-refused (worldOf d window journal used) v n), records-undone (actOf c) n v e)
 
     -- and one refused at the end, where the records of its fields and the end record do not fit
-    pub full-rolls-back : (heard : Heard) (v : World) → go base (length staging) (actOf c) (worldOf d window journal used) ≡ ok heard v
+    pub full-rolls-back : (heard : Heard) (v : World) → go base (lending (length staging)) (actOf c) (worldOf d window journal used) ≡ ok heard v
         → length (v .free) < length (lastLines (worldOf d window journal used) v)
         → (after c base d window staging journal used ≡ told 11 Heard.Nothing d window (stagingAfter c staging) (take used journal ++ replicate (length journal - used) 0) used)
         × (rolledBack base d used v ≡ record { mem = window; dev = d })
@@ -205,5 +205,5 @@ module _ (c : Asked) (base : ℕ) (d : Device) (window staging journal : List �
         let u = worldOf d window journal used in
         let stop : Heard → Act Heard = λ _. Endless in (
           told-refused 11 (ap (leave u) e ∙ leave-full u v heard full),
-          records-undone (actOf c >>= stop) 11 v (bind-ok base (length staging) (actOf c) stop u e ∙ go-endless base (length staging) v),
+          records-undone (actOf c >>= stop) 11 v (bind-ok base (lending (length staging)) (actOf c) stop u e ∙ go-endless base (lending (length staging)) v),
         )

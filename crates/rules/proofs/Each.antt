@@ -15,7 +15,7 @@ use Rattle.rules.specs.Act as acts
 use Rattle.rules.specs.Bytes.{bytes, splice}
 use Rattle.rules.specs.Fields.{bitsOf, holds, withField, settingOf, headOf, partsOf}
 use Rattle.rules.specs.With.{withTable}
-use Rattle.rules.specs.Carry.{Machine, World, no, bytesOf, withBytesOf, withDevice, indexOf, there, legal, fetched, stored, recorded, go}
+use Rattle.rules.specs.Carry.{Machine, World, no, bytesOf, withBytesOf, withDevice, indexOf, there, legal, fetched, stored, recorded, go, Lent}
 use Rattle.rules.proofs.BytesLaws.{length-part, length-splice, bytes-bytes, bytes-splice}
 use Rattle.rules.proofs.FieldLaws.{Sound, put-law, put-sound, holds-fits}
 use Rattle.rules.proofs.Typed.{Typed, sound, table-size}
@@ -145,21 +145,21 @@ fetched-length base sp a n m = length-part (bytesOf sp m) (indexOf base sp a) n
 abbrev pub Properly : (World → Type 0) → World → Type 0
 Properly P u = Proper (u .now .dev) × P u
 
-module _ (base staging : ℕ) (r : Rights) (P : World → Type 0)
+module _ (base : ℕ) (lent : Lent) (r : Rights) (P : World → Type 0)
     (onStore : (sp : Space) (a n v : ℕ) (u : World) → Proper (u .now .dev) → r .may-store sp a n → there base sp a n (u .now) ≡ true → P u → P (recorded base sp a n v u))
     (onPut : (f : Field) (v : ℕ) (u : World) → Proper (u .now .dev) → r .may-put f → P u → P (putting f (v % 2 ^ bitsOf f) u))
   where
-    pub each-keeps : {A : Type 0} {m : Act A} → Each r m → (u : World) → Properly P u → AtEnd (Properly P) (go base staging m u)
+    pub each-keeps : {A : Type 0} {m : Act A} → Each r m → (u : World) → Properly P u → AtEnd (Properly P) (go base lent m u)
     unfolding go
     each-keeps at-done u p = p
     each-keeps at-endless u p = p
     each-keeps {A} (at-stage {n} {k} h q) u p =
-        elim (leb n staging) as (λ b. AtEnd (Properly P) {A = A} (elim b [ true ↦ go base staging k u | false ↦ no 10 u ])) [
+        elim (leb n (lent .staging)) as (λ b. AtEnd (Properly P) {A = A} (elim b [ true ↦ go base lent k u | false ↦ no 10 u ])) [
           | true ↦ each-keeps q u p
           | false ↦ p
         ]
     each-keeps {A} (at-fetch {sp} {a} {n} {k} h q) u p =
-        elim (there base sp a n (u .now)) as (λ b. AtEnd (Properly P) {A = A} (elim b [ true ↦ go base staging (k (fetched base sp a n (u .now))) u | false ↦ no 9 u ])) [
+        elim (there base sp a n (u .now)) as (λ b. AtEnd (Properly P) {A = A} (elim b [ true ↦ go base lent (k (fetched base sp a n (u .now))) u | false ↦ no 9 u ])) [
           | true ↦ each-keeps (q (fetched base sp a n (u .now)) (fetched-length base sp a n (u .now))) u p
           | false ↦ p
         ]
@@ -167,8 +167,8 @@ module _ (base staging : ℕ) (r : Rights) (P : World → Type 0)
         made-or (there base sp a n (u .now)) (legal sp n) (leb 16 (length (u .free))) refl (each-keeps q (recorded base sp a n v u))
       where
         made-or : (b c d : Bool) → there base sp a n (u .now) ≡ b
-            → (Properly P (recorded base sp a n v u) → AtEnd (Properly P) {A = A} (go base staging k (recorded base sp a n v u)))
-            → AtEnd (Properly P) {A = A} (elim (b && c) [ true ↦ elim d [ true ↦ go base staging k (recorded base sp a n v u) | false ↦ no 11 u ] | false ↦ no 9 u ])
+            → (Properly P (recorded base sp a n v u) → AtEnd (Properly P) {A = A} (go base lent k (recorded base sp a n v u)))
+            → AtEnd (Properly P) {A = A} (elim (b && c) [ true ↦ elim d [ true ↦ go base lent k (recorded base sp a n v u) | false ↦ no 11 u ] | false ↦ no 9 u ])
         made-or false c d e g = p
         made-or true false d e g = p
         made-or true true false e g = p

@@ -10,7 +10,7 @@ use lib.Dec.{eqb, ltb}
 use lib.ListN.{length, length-drop}
 use Rattle.rules.specs.State.{Device}
 use Rattle.rules.specs.Act.{Act, done, nothing, ask, put, change, when, _>>=_, _>>_, Field, KICK, DEFERRED, DEADLINE, BUSY, MAJORS}
-use Rattle.rules.specs.Carry.{World, go}
+use Rattle.rules.specs.Carry.{World, go, Lent}
 use Rattle.rules.specs.Fields.{bitsOf, holds}
 use Rattle.rules.specs.Words.{has, gain, lose, lowest}
 use Rattle.rules.specs.Minor.{START, DONE, descriptor, pass}
@@ -40,10 +40,10 @@ lineOr rest (suc n) sum = do
       (cond (has (t′ .csr) DONE || ltb (2 ^ 20) (sum + t .nbytes)) (done (sum + t .nbytes)) (lineOr rest n (sum + t .nbytes)))
       (done sum)
 
-module _ (base staging : ℕ) where
+module _ (base : ℕ) (lent : Lent) where
   -- each pass that answers yes writes four records at least: it meets 11, or ends, before the number runs out
   pub line-any : (rest : ℕ → Act ℕ) (n m sum : ℕ) (u : World) → length (u .free) < 64 * n → length (u .free) < 64 * m
-      → go base staging (lineLoop n sum) u ≡ go base staging (lineOr rest m sum) u
+      → go base lent (lineLoop n sum) u ≡ go base lent (lineOr rest m sum) u
   unfolding lineLoop lineOr
   line-any rest zero m sum u h k = absurd (omega arith)
   line-any rest (suc n) zero sum u h k = absurd (omega arith)
@@ -51,15 +51,15 @@ module _ (base staging : ℕ) where
       same-bind _ _ (shrinks (descriptor 35) u (length (u .free)) (omega arith)) λ t v a.
       same-bind _ _ (pass-room 35 v) λ went w b.
       same-bind _ _ (shrinks (descriptor 35) w (length (w .free)) (omega arith)) λ t′ x c.
-      same-cond base staging x went _ _ _ _
+      same-cond base lent x went _ _ _ _
       (λ e.
       let d : length (w .free) + 64 ≤ length (v .free) = b e in
-      same-cond base staging x (has (t′ .csr) DONE || ltb (2 ^ 20) (sum + t .nbytes)) _ _ _ _ (λ _. refl)
+      same-cond base lent x (has (t′ .csr) DONE || ltb (2 ^ 20) (sum + t .nbytes)) _ _ _ _ (λ _. refl)
       (λ _. line-any rest n m (sum + t .nbytes) x (omega arith) (omega arith)))
       (λ _. refl)
 
   pub line-same : (n m sum : ℕ) (u : World) → length (u .free) < 64 * n → length (u .free) < 64 * m
-      → go base staging (lineLoop n sum) u ≡ go base staging (lineLoop m sum) u
+      → go base lent (lineLoop n sum) u ≡ go base lent (lineLoop m sum) u
   line-same n m sum u h k = line-any done n m sum u h k ∙ sym (line-any done m m sum u k k)
 
 -- a journal has at most 2^28 bytes
@@ -82,29 +82,29 @@ one-less : {ch count majors : ℕ} {after : Device} → Counted ch count majors 
 one-less (fewer k l) h = k
 one-less (ended l k) h = absurd (omega (arith, h, k))
 
-module _ (base staging ch : ℕ) (h : ch < 64) where
+module _ (base : ℕ) (lent : Lent) (ch : ℕ) (h : ch < 64) where
   -- each pass that answers yes stores the count less one, and at the last majors changes: the loop ends before the number runs out
   pub start-any : (rest : Act (Unit {0})) (n m before : ℕ) (u : World) → Proper (u .now .dev) → before ≡ holds (MAJORS ch) (u .now .dev)
       → countAt ch (u .now .dev) < n → countAt ch (u .now .dev) < m
-      → go base staging (startLoop n ch before) u ≡ go base staging (startOr rest m ch before) u
+      → go base lent (startLoop n ch before) u ≡ go base lent (startOr rest m ch before) u
   unfolding startLoop startOr
   start-any rest zero m before u p b l k = absurd (omega arith)
   start-any rest (suc n) zero before u p b l k = absurd (omega arith)
   start-any rest (suc n) (suc m) before u p b l k =
       same-bind _ _ (leads-both (pass-counts ch h u p) (proper-kept (pass ch) u p)) λ went v q.
       let majors = holds (MAJORS ch) (v .now .dev) in
-      bind-ok base staging (ask (MAJORS ch)) _ v (ask-does base staging v (MAJORS ch))
-      ∙ same-cond base staging v (went && eqb majors before) _ _ _ _
+      bind-ok base lent (ask (MAJORS ch)) _ v (ask-does base lent v (MAJORS ch))
+      ∙ same-cond base lent v (went && eqb majors before) _ _ _ _
       (λ e.
       let same : majors ≡ before = eqb-true majors before (and-right went _ e) in
       let less = one-less (q .0 (and-left went _ e)) (same ∙ b) in
       start-any rest n m before v (q .1) (sym same) (omega arith) (omega arith))
       (λ _. refl)
-      ∙ sym (bind-ok base staging (ask (MAJORS ch)) _ v (ask-does base staging v (MAJORS ch)))
+      ∙ sym (bind-ok base lent (ask (MAJORS ch)) _ v (ask-does base lent v (MAJORS ch)))
 
   pub start-same : (n m before : ℕ) (u : World) → Proper (u .now .dev) → before ≡ holds (MAJORS ch) (u .now .dev)
       → countAt ch (u .now .dev) < n → countAt ch (u .now .dev) < m
-      → go base staging (startLoop n ch before) u ≡ go base staging (startLoop m ch before) u
+      → go base lent (startLoop n ch before) u ≡ go base lent (startLoop m ch before) u
   start-same n m before u p b l k = start-any nothing n m before u p b l k ∙ sym (start-any nothing m m before u p b k k)
 
 -- a count has 15 bits
@@ -184,93 +184,93 @@ pub record Fair (u : World) : Type 0 where
   pub proper : Proper (u .now .dev)
   pub room : length (u .free) ≤ 2 ^ 28
 
-module _ (base staging : ℕ) where
+module _ (base : ℕ) (lent : Lent) where
   -- from wherever is fair, two acts go the same
   pub record Alike {A : Type 0} (m k : Act A) : Type 0 where
-    pub goes : (u : World) → Fair u → go base staging m u ≡ go base staging k u
+    pub goes : (u : World) → Fair u → go base lent m u ≡ go base lent k u
 
-module _ {base staging : ℕ} where
-  fair-kept : {A : Type 0} (m : Act A) (u : World) → Fair u → Leads base staging u m (λ _ v. Fair v)
+module _ {base : ℕ} {lent : Lent} where
+  fair-kept : {A : Type 0} (m : Act A) (u : World) → Fair u → Leads base lent u m (λ _ v. Fair v)
   fair-kept m u p = leads-map (leads-both (proper-kept m u (p .proper)) (shrinks m u (2 ^ 28) (p .room))) λ _ v q. record { proper = q .0; room = q .1 }
 
-  alike : {A : Type 0} {m : Act A} → Alike base staging m m
+  alike : {A : Type 0} {m : Act A} → Alike base lent m m
   alike = record { goes = λ u p. refl }
 
-  alike-bind : {A B : Type 0} {m k : Act A} {f g : A → Act B} → Alike base staging m k → ((a : A) → Alike base staging (f a) (g a))
-      → Alike base staging (m >>= f) (k >>= g)
+  alike-bind : {A B : Type 0} {m k : Act A} {f g : A → Act B} → Alike base lent m k → ((a : A) → Alike base lent (f a) (g a))
+      → Alike base lent (m >>= f) (k >>= g)
   alike-bind {m = m} {k = k} {f = f} {g = g} p q = record {
     goes = λ u h.
         same-bind f g (fair-kept m u h) (λ a v l. q a .goes v l)
-        ∙ go-bind base staging m g u
-        ∙ ap (λ o. andThen o (λ a. go base staging (g a))) (p .goes u h)
-        ∙ sym (go-bind base staging k g u);
+        ∙ go-bind base lent m g u
+        ∙ ap (λ o. andThen o (λ a. go base lent (g a))) (p .goes u h)
+        ∙ sym (go-bind base lent k g u);
   }
 
-  alike-then : {A B : Type 0} {m k : Act A} {f g : Act B} → Alike base staging m k → Alike base staging f g → Alike base staging (m >> f) (k >> g)
+  alike-then : {A B : Type 0} {m k : Act A} {f g : Act B} → Alike base lent m k → Alike base lent f g → Alike base lent (m >> f) (k >> g)
   unfolding _>>_
   alike-then p q = alike-bind p (λ _. q)
 
-  alike-asked : {A : Type 0} (f : Field) {k l : ℕ → Act A} → ((v : ℕ) → v < 2 ^ bitsOf f → Alike base staging (k v) (l v))
-      → Alike base staging (ask f >>= k) (ask f >>= l)
+  alike-asked : {A : Type 0} (f : Field) {k l : ℕ → Act A} → ((v : ℕ) → v < 2 ^ bitsOf f → Alike base lent (k v) (l v))
+      → Alike base lent (ask f >>= k) (ask f >>= l)
   alike-asked f {k} {l} q = record {
     goes = λ u h.
-        bind-ok base staging (ask f) k u (ask-does base staging u f)
+        bind-ok base lent (ask f) k u (ask-does base lent u f)
         ∙ q (holds f (u .now .dev)) (holds-fits f (u .now .dev) (h .proper .sound)) .goes u h
-        ∙ sym (bind-ok base staging (ask f) l u (ask-does base staging u f));
+        ∙ sym (bind-ok base lent (ask f) l u (ask-does base lent u f));
   }
 
-  alike-cond : {A : Type 0} (b : Bool) {m k n l : Act A} → (b ≡ true → Alike base staging m n) → (b ≡ false → Alike base staging k l)
-      → Alike base staging (cond b m k) (cond b n l)
+  alike-cond : {A : Type 0} (b : Bool) {m k n l : Act A} → (b ≡ true → Alike base lent m n) → (b ≡ false → Alike base lent k l)
+      → Alike base lent (cond b m k) (cond b n l)
   alike-cond true p q = p refl
   alike-cond false p q = q refl
 
-  alike-when : (b : Bool) {m k : Act (Unit {0})} → Alike base staging m k → Alike base staging (when b m) (when b k)
+  alike-when : (b : Bool) {m k : Act (Unit {0})} → Alike base lent m k → Alike base lent (when b m) (when b k)
   unfolding when
   alike-when true p = p
   alike-when false p = alike
 
-module _ (base staging : ℕ) (o : Limits) (enough : Enough o) where
+module _ (base : ℕ) (lent : Lent) (o : Limits) (enough : Enough o) where
   module _ (now pace : ℕ) where
-    line-alike : Alike base staging (serveLine now pace) (serveLineOr o now pace)
+    line-alike : Alike base lent (serveLine now pace) (serveLineOr o now pace)
     unfolding serveLine serveLineOr
     line-alike =
-        alike-bind (record { goes = λ u p. line-any base staging (o .lineRest) linePasses (o .lines) 0 u (line-enough u (p .room)) (omega (arith, p .room, enough .for-line)) }) λ sum. alike
+        alike-bind (record { goes = λ u p. line-any base lent (o .lineRest) linePasses (o .lines) 0 u (line-enough u (p .room)) (omega (arith, p .room, enough .for-line)) }) λ sum. alike
 
     -- the majors that the loop of START is given are those of the moment
-    serve-alike : (ch : ℕ) → ch < 64 → Alike base staging (serve now pace ch) (serveOr o now pace ch)
+    serve-alike : (ch : ℕ) → ch < 64 → Alike base lent (serve now pace ch) (serveOr o now pace ch)
     unfolding serve serveOr
     serve-alike ch h = record {
       goes = λ u p.
           same-bind _ _ (fair-kept (descriptor ch) u p) λ t v q.
-          bind-ok base staging (ask (MAJORS ch)) _ v (ask-does base staging v (MAJORS ch))
+          bind-ok base lent (ask (MAJORS ch)) _ v (ask-does base lent v (MAJORS ch))
           ∙ same-bind _ _ (leads-both (fair-kept (offered ch) v q) (majors-kept ch _ (offered-each ch) v (q .proper, refl))) (λ asks w f.
-          same-cond base staging w (has (t .csr) START) _ _ _ _
+          same-cond base lent w (has (t .csr) START) _ _ _ _
           (λ _.
-          start-any base staging ch h (o .startRest) startPasses (o .starts) _ w (f .0 .proper) (sym (f .1 .1)) (start-enough ch (w .now .dev))
+          start-any base lent ch h (o .startRest) startPasses (o .starts) _ w (f .0 .proper) (sym (f .1 .1)) (start-enough ch (w .now .dev))
           (omega (arith, count-fits ch (w .now .dev), enough .for-start)))
           (λ _. alike-when asks (alike-cond (eqb ch 35) (λ _. line-alike) (λ _. alike)) .goes w (f .0)))
-          ∙ sym (bind-ok base staging (ask (MAJORS ch)) _ v (ask-does base staging v (MAJORS ch)));
+          ∙ sym (bind-ok base lent (ask (MAJORS ch)) _ v (ask-does base lent v (MAJORS ch)));
     }
 
-    turn-alike : (ch : ℕ) → ch < 64 → Alike base staging (turn now pace ch) (turnOr o now pace ch)
+    turn-alike : (ch : ℕ) → ch < 64 → Alike base lent (turn now pace ch) (turnOr o now pace ch)
     unfolding turn turnOr
     turn-alike ch h = alike-then alike (alike-bind alike λ busy. alike-cond (ltb now busy) (λ _. alike) (λ _. serve-alike ch h))
 
-    turns-alike : (n : ℕ) → Alike base staging (turns now pace n) (turnsOr o now pace n)
+    turns-alike : (n : ℕ) → Alike base lent (turns now pace n) (turnsOr o now pace n)
     unfolding turns turnsOr bitsOf
     turns-alike zero = alike
     turns-alike (suc n) =
         alike-asked KICK λ kick b. alike-cond (eqb kick 0) (λ _. alike) λ e.
         alike-bind (turn-alike (lowest kick) (lowest-below kick (omega (arith, eqb-false kick 0 e)) b)) λ _. turns-alike n
 
-    service-alike : Alike base staging (serviceAll now pace) (serviceOr o now pace)
+    service-alike : Alike base lent (serviceAll now pace) (serviceOr o now pace)
     unfolding serviceAll serviceOr runAll
     service-alike =
         alike-bind alike λ back. alike-bind alike λ deferred. alike-bind alike λ asking.
         alike-then alike (alike-then alike (turns-alike runTurns))
 
   -- no call's act depends on these numbers, nor on what stands where they run out
-  pub call-alike : (c : Asked) → Alike base staging (actOf c) (actOr o c)
+  pub call-alike : (c : Asked) → Alike base lent (actOf c) (actOr o c)
   unfolding actOf actOr levelled runAll
   call-alike (write address size v) = alike
   call-alike (inputs standing l0 l1 l2) = alike
@@ -303,7 +303,7 @@ fair-call base d mem journal used c p e = record {
 }
 
 -- and so of every call that refusals 1 to 8 do not refuse
-pub call-ends : (base staging : ℕ) (o : Limits) → Enough o → (d : Device) (mem journal : List ℕ) (used : ℕ) (c : Asked) → Proper d
+pub call-ends : (base : ℕ) (lent : Lent) (o : Limits) → Enough o → (d : Device) (mem journal : List ℕ) (used : ℕ) (c : Asked) → Proper d
     → wrong base (length mem) (length journal) used c ≡ 0
-    → go base staging (actOf c) (worldOf d mem journal used) ≡ go base staging (actOr o c) (worldOf d mem journal used)
-call-ends base staging o enough d mem journal used c p e = call-alike base staging o enough c .goes _ (fair-call base d mem journal used c p e)
+    → go base lent (actOf c) (worldOf d mem journal used) ≡ go base lent (actOr o c) (worldOf d mem journal used)
+call-ends base lent o enough d mem journal used c p e = call-alike base lent o enough c .goes _ (fair-call base d mem journal used c p e)

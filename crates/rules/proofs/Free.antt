@@ -7,7 +7,7 @@ use lib.Dec.{eqb, leb}
 use lib.ListN.{length, take, drop, replicate, length-append, length-drop, length-replicate}
 use Rattle.rules.specs.Act.{Act, Done, Endless, Stage, Fetch, Store, Ask, Put, Look}
 use Rattle.rules.specs.Fields.{bitsOf, holds, settingOf}
-use Rattle.rules.specs.Carry.{Machine, World, Out, ok, no, there, legal, fetched, recorded, go, After, made, unmade, lastLines, written, cleared, leave, perform, undo}
+use Rattle.rules.specs.Carry.{Machine, World, Out, ok, no, there, legal, fetched, recorded, go, After, made, unmade, lastLines, written, cleared, leave, perform, undo, Lent}
 use Rattle.rules.specs.TakeBack.{value, allSound, ends, decodeAll, takeGroup, takeLast, takeEnd, takeBack}
 use Rattle.rules.proofs.Steps.{putting}
 
@@ -51,21 +51,21 @@ agree-free u f e = record { seen-is = refl; room-is = e }
 
 -- ---- steps
 
-module _ (base staging : ℕ) where
-  go-free : {A : Type 0} (m : Act A) (u : World) (f : List ℕ) → length (u .free) ≡ length f → AgreeOut (go base staging m u) (go base staging m (withFree f u))
+module _ (base : ℕ) (lent : Lent) where
+  go-free : {A : Type 0} (m : Act A) (u : World) (f : List ℕ) → length (u .free) ≡ length f → AgreeOut (go base lent m u) (go base lent m (withFree f u))
   unfolding go recorded
   go-free (Done a) u f e = (refl, agree-free u f e)
   go-free Endless u f e = (refl, agree-free u f e)
   go-free {A} (Stage n k) u f e =
       let v = withFree f u in
-      elim (leb n staging) as (λ b. AgreeOut {A = A} (elim b [ true ↦ go base staging k u | false ↦ no 10 u ]) (elim b [ true ↦ go base staging k v | false ↦ no 10 v ])) [
+      elim (leb n (lent .staging)) as (λ b. AgreeOut {A = A} (elim b [ true ↦ go base lent k u | false ↦ no 10 u ]) (elim b [ true ↦ go base lent k v | false ↦ no 10 v ])) [
         | true ↦ go-free k u f e
         | false ↦ (refl, agree-free u f e)
       ]
   go-free {A} (Fetch sp a n k) u f e =
       let v = withFree f u in
       let l = fetched base sp a n (u .now) in
-      elim (there base sp a n (u .now)) as (λ b. AgreeOut {A = A} (elim b [ true ↦ go base staging (k l) u | false ↦ no 9 u ]) (elim b [ true ↦ go base staging (k l) v | false ↦ no 9 v ])) [
+      elim (there base sp a n (u .now)) as (λ b. AgreeOut {A = A} (elim b [ true ↦ go base lent (k l) u | false ↦ no 9 u ]) (elim b [ true ↦ go base lent (k l) v | false ↦ no 9 v ])) [
         | true ↦ go-free (k l) u f e
         | false ↦ (refl, agree-free u f e)
       ]
@@ -74,10 +74,10 @@ module _ (base staging : ℕ) where
       (go-free k (recorded base sp a n x u) (drop 16 f) (length-drop 16 (u .free) ∙ ap (λ n. n - 16) e ∙ sym (length-drop 16 f)))
     where
       made-or : (b c d : Bool) → c ≡ d
-          → AgreeOut {A = A} (go base staging k (recorded base sp a n x u)) (go base staging k (recorded base sp a n x (withFree f u)))
+          → AgreeOut {A = A} (go base lent k (recorded base sp a n x u)) (go base lent k (recorded base sp a n x (withFree f u)))
           → AgreeOut {A = A}
-          (elim b [ true ↦ elim c [ true ↦ go base staging k (recorded base sp a n x u) | false ↦ no 11 u ] | false ↦ no 9 u ])
-          (elim b [ true ↦ elim d [ true ↦ go base staging k (recorded base sp a n x (withFree f u)) | false ↦ no 11 (withFree f u) ] | false ↦ no 9 (withFree f u) ])
+          (elim b [ true ↦ elim c [ true ↦ go base lent k (recorded base sp a n x u) | false ↦ no 11 u ] | false ↦ no 9 u ])
+          (elim b [ true ↦ elim d [ true ↦ go base lent k (recorded base sp a n x (withFree f u)) | false ↦ no 11 (withFree f u) ] | false ↦ no 9 (withFree f u) ])
       made-or false c d p h = (refl, agree-free u f e)
       made-or true true true p h = h
       made-or true false false p h = (refl, agree-free u f e)
@@ -87,8 +87,8 @@ module _ (base staging : ℕ) where
   go-free (Put n x k) u f e = go-free k (putting n (x % 2 ^ bitsOf n) u) f e
   go-free (Look s k) u f e = go-free (k (settingOf s (u .now .dev))) u f e
 
-  pub go-agrees : {A : Type 0} (m : Act A) (u v : World) → Agree u v → AgreeOut (go base staging m u) (go base staging m v)
-  go-agrees m u v h = subst (λ w. AgreeOut (go base staging m u) (go base staging m w)) (sym (as-free u v h)) (go-free m u (v .free) (h .room-is))
+  pub go-agrees : {A : Type 0} (m : Act A) (u v : World) → Agree u v → AgreeOut (go base lent m u) (go base lent m v)
+  go-agrees m u v h = subst (λ w. AgreeOut (go base lent m u) (go base lent m w)) (sym (as-free u v h)) (go-free m u (v .free) (h .room-is))
 
 -- ---- acts
 
@@ -123,11 +123,11 @@ module _ (u : World) (f : List ℕ) (e : length (u .free) ≡ length f) where
       room true false p = absurd (true≢false p)
       room false true p = absurd (false≢true p)
 
-pub perform-agrees : (base staging : ℕ) {A : Type 0} (m : Act A) (u v : World) → Agree u v → AgreeAfter (perform base staging m u) (perform base staging m v)
+pub perform-agrees : (base : ℕ) (lent : Lent) {A : Type 0} (m : Act A) (u v : World) → Agree u v → AgreeAfter (perform base lent m u) (perform base lent m v)
 unfolding perform
-perform-agrees base staging m u v h =
-    subst (λ w. AgreeAfter (perform base staging m u) (perform base staging m w)) (sym (as-free u v h))
-    (leave-free u (v .free) (h .room-is) (go base staging m u) (go base staging m (withFree (v .free) u)) (go-free base staging m u (v .free) (h .room-is)))
+perform-agrees base lent m u v h =
+    subst (λ w. AgreeAfter (perform base lent m u) (perform base lent m w)) (sym (as-free u v h))
+    (leave-free u (v .free) (h .room-is) (go base lent m u) (go base lent m (withFree (v .free) u)) (go-free base lent m u (v .free) (h .room-is)))
 
 -- ---- take back
 

@@ -9,7 +9,7 @@ use lib.Seq.{take-at, take-take, length-take-le}
 use Rattle.rules.specs.State.{Device}
 use Rattle.rules.specs.Act.{Act, Space, Field}
 use Rattle.rules.specs.Calls.{worldOf}
-use Rattle.rules.specs.Carry.{World, lineOf, stoodAt, fetched, recorded, go}
+use Rattle.rules.specs.Carry.{World, lineOf, stoodAt, fetched, recorded, go, Lent}
 use Rattle.rules.specs.Bytes.{number}
 use Rattle.rules.specs.Fields.{bitsOf}
 use Rattle.rules.proofs.Back.{length-rec}
@@ -21,7 +21,7 @@ pub record Grown (u v : World) : Type 0 where
   pub used-is : v .used ≡ u .used ++ more
   pub total-is : length (v .used) + length (v .free) ≡ length (u .used) + length (u .free)
 
-module _ (base staging : ℕ) (u : World) where
+module _ (base : ℕ) (lent : Lent) (u : World) where
   on-store : (sp : Space) (a n v : ℕ) (w : World) → 16 ≤ length (w .free) → Grown u w → Grown u (recorded base sp a n v w)
   unfolding recorded
   on-store sp a n v w h g =
@@ -35,9 +35,9 @@ module _ (base staging : ℕ) (u : World) where
   on-put : (f : Field) (v : ℕ) (w : World) → Grown u w → Grown u (putting f (v % 2 ^ bitsOf f) w)
   on-put f v w g = record { more = g .more; used-is = g .used-is; total-is = g .total-is }
 
-  pub go-grows : {A : Type 0} (m : Act A) → AtEnd (Grown u) (go base staging m u)
+  pub go-grows : {A : Type 0} (m : Act A) → AtEnd (Grown u) (go base lent m u)
   go-grows m =
-      go-keeps base staging (Grown u) (λ sp a n v w _ _ h g. on-store sp a n v w h g) on-put m u
+      go-keeps base lent (Grown u) (λ sp a n v w _ _ h g. on-store sp a n v w h g) on-put m u
       record { more = []; used-is = sym (append-nil (u .used)); total-is = refl }
 
 -- ---- a journal that is one list: what stood below the used length stands there still, and it is as long as it was

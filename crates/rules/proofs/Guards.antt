@@ -12,7 +12,7 @@ use lib.ListN.{getD, length}
 use borrow.Author.Tests.{eqb-false, eqb-true, leb-true, ltb-false, not-false}
 use Rattle.rules.specs.Act.{Act, Done, Endless, Stage, Fetch, Store, Ask, Put, Look, Space, window, table, nothing, CR, ERQ, EEI, INT, ERR, KICK, DEFERRED, DEADLINE, LEVEL, STANDING, MASKS, FORCED, LINES, CONFIG, BUSY, MAJORS, PENDING, SOURCE, TAKEN, IGNORE}
 use Rattle.rules.specs.Fields.{bitsOf, holds, settingOf}
-use Rattle.rules.specs.Carry.{World, Out, ok, no, there, legal, fetched, recorded, go}
+use Rattle.rules.specs.Carry.{World, Out, ok, no, there, legal, fetched, recorded, go, Lent}
 use Rattle.rules.specs.Words.{has, lowest}
 use Rattle.rules.specs.Minor.{START, DONE, descriptor, pass}
 use Rattle.rules.specs.Run.{requests, offered, waiting, requesting, startLoop, lineLoop, serveLine, requestLoop, startPasses, linePasses, requestPasses, serve, turn, turns, runTurns, runAll, release, serviceAll}
@@ -434,12 +434,12 @@ call-guarded base mem journal used (ack ipl) e = acknowledge-guarded ipl
 
 -- ---- an act carried out without these tests
 
-module _ (base staging : ℕ) where
+module _ (base : ℕ) (lent : Lent) where
   -- `go`, without the tests of a store's width and of a place in the table
   unfoldable pub goBare : {A : Type 0} → Act A → World → Out A
   goBare (Done a) u = ok a u
   goBare Endless u = no 11 u
-  goBare (Stage n k) u = elim (leb n staging) [ true ↦ goBare k u | false ↦ no 10 u ]
+  goBare (Stage n k) u = elim (leb n (lent .staging)) [ true ↦ goBare k u | false ↦ no 10 u ]
   goBare (Fetch window a n k) u = elim (there base window a n (u .now)) [ true ↦ goBare (k (fetched base window a n (u .now))) u | false ↦ no 9 u ]
   goBare (Fetch table a n k) u = goBare (k (fetched base table a n (u .now))) u
   goBare (Store window a n v k) u =
@@ -466,17 +466,17 @@ both-hold true true z g h e = e
 both-hold true false z g h e = absurd (false≢true h)
 both-hold false c z g h e = absurd (false≢true g)
 
-module _ (base staging : ℕ) where
+module _ (base : ℕ) (lent : Lent) where
   -- they never decide
-  pub bare-same : {A : Type 0} {m : Act A} → Each guarded m → (u : World) → Proper (u .now .dev) → go base staging m u ≡ goBare base staging m u
+  pub bare-same : {A : Type 0} {m : Act A} → Each guarded m → (u : World) → Proper (u .now .dev) → go base lent m u ≡ goBare base lent m u
   unfolding go goBare guarded
   bare-same at-done u p = refl
   bare-same at-endless u p = refl
-  bare-same (at-stage {n} _ q) u p = ap (λ o. tested (leb n staging) o (no 10 u)) (bare-same q u p)
+  bare-same (at-stage {n} _ q) u p = ap (λ o. tested (leb n (lent .staging)) o (no 10 u)) (bare-same q u p)
   bare-same (at-fetch {sp = window} {a} {n} h q) u p =
       ap (λ o. tested (there base window a n (u .now)) o (no 9 u)) (bare-same (q _ (fetched-length base window a n (u .now))) u p)
   bare-same (at-fetch {sp = table} {a} {n} {k} h q) u p =
-      fetch-inside base staging table a n k u (in-table base a n (u .now) (omega (arith, p .size)))
+      fetch-inside base lent table a n k u (in-table base a n (u .now) (omega (arith, p .size)))
       ∙ bare-same (q _ (fetched-length base table a n (u .now))) u p
   bare-same (at-store {sp = window} {a} {n} {v} h q) u p =
       other-holds (there base window a n (u .now)) (legal window n) (no 9 u) (h .0)
@@ -490,5 +490,5 @@ module _ (base staging : ℕ) where
 
   -- and so for every call that refusals 1 to 8 do not refuse
   pub call-bare : (mem journal used : ℕ) (c : Asked) → wrong base mem journal used c ≡ 0 → (u : World) → Proper (u .now .dev)
-      → go base staging (actOf c) u ≡ goBare base staging (actOf c) u
+      → go base lent (actOf c) u ≡ goBare base lent (actOf c) u
   call-bare mem journal used c e u p = bare-same (call-guarded base mem journal used c e) u p

@@ -10,7 +10,7 @@ use lib.Dec.{eqb, leb, lit<, lit≤}
 use lib.ListN.{length, getD}
 use Rattle.rules.specs.Act.{Act, change, TAKEN}
 use Rattle.rules.specs.Calls.{Asked, write, inputs, pending, run, service, ack, levelled, actOf, wrong, wrongBack, told, heardTold, stagingAfter, worldOf, toldAfter, after, heardNothing, afterBack}
-use Rattle.rules.specs.Carry.{World, Out, ok, no, go, After, made, unmade, lastLines, written, cleared, leave, perform}
+use Rattle.rules.specs.Carry.{World, Out, ok, no, go, After, made, unmade, lastLines, written, cleared, leave, perform, Lent, lending}
 use Rattle.rules.specs.Lines.{sources, levelBytes, relevel, answers, Found, loudestAbove, above, heardFrom, hear, acknowledge}
 use Rattle.rules.specs.TakeBack.{takeBack}
 use Rattle.rules.specs.Words.{has}
@@ -44,22 +44,22 @@ above-below : (c : ℕ) → c < 3 → (f below : Found) → Below 64 f → Below
 unfolding above Below
 above-below c h (l, s) below p q = either-below 192 (not (eqb l 0) && leb (below .0) l) (l, 64 * c + s) below (p .0, omega (arith, p .1)) q
 
-module _ {base staging : ℕ} where
-  heard-below : (ipl c : ℕ) → c < 3 → (below : Found) (u : World) → Below 192 below → Leads base staging u (heardFrom ipl c below) (λ f _. Below 192 f)
+module _ {base : ℕ} {lent : Lent} where
+  heard-below : (ipl c : ℕ) → c < 3 → (below : Found) (u : World) → Below 192 below → Leads base lent u (heardFrom ipl c below) (λ f _. Below 192 f)
   unfolding heardFrom
   heard-below ipl c h below u p =
       leads-bind (shrinks (sources c) u (length (u .free)) (omega arith)) λ m v _.
       leads-bind (shrinks (levelBytes c 64 0) v (length (v .free)) (omega arith)) λ levels w _.
       leads-done (above-below c h (loudestAbove ipl levels m 64) below (loudest-below ipl levels m 64 (omega arith)) p)
 
-  hear-audible : (f : Found) (u : World) → Below 192 f → Leads base staging u (hear f) (λ heard _. Audible heard)
+  hear-audible : (f : Found) (u : World) → Below 192 f → Leads base lent u (hear f) (λ heard _. Audible heard)
   unfolding hear Below
   hear-audible (l, i) u p =
       leads-cond (eqb l 0) (λ _. leads-done tt) (λ e.
       leads-then (shrinks (change (TAKEN i) _) u (length (u .free)) (omega arith)) λ _ v _.
       leads-done (omega (arith, eqb-false l 0 e), p .0, omega arith, omega (arith, p .1)))
 
-  acknowledge-audible : (ipl : ℕ) (u : World) → Leads base staging u (acknowledge ipl) (λ heard _. Audible heard)
+  acknowledge-audible : (ipl : ℕ) (u : World) → Leads base lent u (acknowledge ipl) (λ heard _. Audible heard)
   unfolding acknowledge Below
   acknowledge-audible ipl u =
       leads-bind (heard-below ipl 0 (lit< tt) (0, 0) u (lit< tt, lit< tt)) λ h0 v p.
@@ -67,14 +67,14 @@ module _ {base staging : ℕ} where
       leads-bind (heard-below ipl 2 (lit< tt) h1 w q) λ h2 x r.
       hear-audible h2 x r
 
-  levelled-audible : (m : Act (Unit {0})) (u : World) → Leads base staging u (levelled m) (λ heard _. Audible heard)
+  levelled-audible : (m : Act (Unit {0})) (u : World) → Leads base lent u (levelled m) (λ heard _. Audible heard)
   unfolding levelled
   levelled-audible m u =
       leads-then (shrinks m u (length (u .free)) (omega arith)) λ _ v _.
       leads-then (shrinks relevel v (length (v .free)) (omega arith)) λ _ w _.
       leads-done tt
 
-  call-audible : (c : Asked) (u : World) → Leads base staging u (actOf c) (λ heard _. Audible heard)
+  call-audible : (c : Asked) (u : World) → Leads base lent u (actOf c) (λ heard _. Audible heard)
   unfolding actOf
   call-audible (write address size v) u = levelled-audible _ u
   call-audible (inputs standing l0 l1 l2) u = levelled-audible _ u
@@ -102,10 +102,10 @@ act-hears c base d window staging journal used = by-number (wrong base (length w
         ]
 
     by-number : (n : ℕ) → Audible (heardTold (elim n [
-      | zero ↦ toldAfter (stagingAfter c staging) used (perform base (length staging) (actOf c) u)
+      | zero ↦ toldAfter (stagingAfter c staging) used (perform base (lending (length staging)) (actOf c) u)
       | suc n ↦ told (suc n) Heard.Nothing d window staging journal used
     ]))
-    by-number zero = left (go base (length staging) (actOf c) u) (call-audible c u .answered)
+    by-number zero = left (go base (lending (length staging)) (actOf c) u) (call-audible c u .answered)
     by-number (suc n) = tt
 
 -- a take-back hears nothing

@@ -10,7 +10,7 @@ use lib.Pow.{pow-pos}
 use Rattle.rules.specs.Act.{Act, Done, Endless, Stage, Fetch, Store, Ask, Put, Look, Space, window, table, Field}
 use Rattle.rules.specs.Bytes.{Bytes, bytes}
 use Rattle.rules.specs.Fields.{bitsOf, holds, withField, settingOf, headOf, partsOf}
-use Rattle.rules.specs.Carry.{Machine, World, Out, ok, no, bytesOf, withBytesOf, withDevice, indexOf, there, legal, fetched, stored, recorded, go}
+use Rattle.rules.specs.Carry.{Machine, World, Out, ok, no, bytesOf, withBytesOf, withDevice, indexOf, there, legal, fetched, stored, recorded, go, Lent}
 use Rattle.rules.proofs.BytesLaws.{length-splice, bytes-bytes, bytes-splice}
 use Rattle.rules.proofs.FieldLaws.{Sound, put-law, put-sound}
 use Rattle.rules.proofs.Steps.{putting}
@@ -20,21 +20,21 @@ abbrev pub AtEnd : (World → Type 0) → {A : Type 0} → Out A → Type 0
 AtEnd P (ok a u) = P u
 AtEnd P (no n u) = P u
 
-module _ (base staging : ℕ) (P : World → Type 0)
+module _ (base : ℕ) (lent : Lent) (P : World → Type 0)
     (onStore : (sp : Space) (a n v : ℕ) (u : World) → there base sp a n (u .now) ≡ true → legal sp n ≡ true → 16 ≤ length (u .free) → P u → P (recorded base sp a n v u))
     (onPut : (f : Field) (v : ℕ) (u : World) → P u → P (putting f (v % 2 ^ bitsOf f) u))
   where
-    pub go-keeps : {A : Type 0} (m : Act A) (u : World) → P u → AtEnd P (go base staging m u)
+    pub go-keeps : {A : Type 0} (m : Act A) (u : World) → P u → AtEnd P (go base lent m u)
     unfolding go
     go-keeps (Done a) u p = p
     go-keeps Endless u p = p
     go-keeps {A} (Stage n k) u p =
-        elim (leb n staging) as (λ b. AtEnd P {A = A} (elim b [ true ↦ go base staging k u | false ↦ no 10 u ])) [
+        elim (leb n (lent .staging)) as (λ b. AtEnd P {A = A} (elim b [ true ↦ go base lent k u | false ↦ no 10 u ])) [
           | true ↦ go-keeps k u p
           | false ↦ p
         ]
     go-keeps {A} (Fetch sp a n k) u p =
-        elim (there base sp a n (u .now)) as (λ b. AtEnd P {A = A} (elim b [ true ↦ go base staging (k (fetched base sp a n (u .now))) u | false ↦ no 9 u ])) [
+        elim (there base sp a n (u .now)) as (λ b. AtEnd P {A = A} (elim b [ true ↦ go base lent (k (fetched base sp a n (u .now))) u | false ↦ no 9 u ])) [
           | true ↦ go-keeps (k (fetched base sp a n (u .now))) u p
           | false ↦ p
         ]
@@ -42,8 +42,8 @@ module _ (base staging : ℕ) (P : World → Type 0)
         made-or (there base sp a n (u .now)) (legal sp n) (leb 16 (length (u .free))) refl refl refl (go-keeps k (recorded base sp a n v u))
       where
         made-or : (b c d : Bool) → there base sp a n (u .now) ≡ b → legal sp n ≡ c → leb 16 (length (u .free)) ≡ d
-            → (P (recorded base sp a n v u) → AtEnd P {A = A} (go base staging k (recorded base sp a n v u)))
-            → AtEnd P {A = A} (elim (b && c) [ true ↦ elim d [ true ↦ go base staging k (recorded base sp a n v u) | false ↦ no 11 u ] | false ↦ no 9 u ])
+            → (P (recorded base sp a n v u) → AtEnd P {A = A} (go base lent k (recorded base sp a n v u)))
+            → AtEnd P {A = A} (elim (b && c) [ true ↦ elim d [ true ↦ go base lent k (recorded base sp a n v u) | false ↦ no 11 u ] | false ↦ no 9 u ])
         made-or false c d e f g h = p
         made-or true false d e f g h = p
         made-or true true false e f g h = p

@@ -12,7 +12,7 @@ use lib.Seq.{length-take-le}
 use Rattle.rules.specs.Act.{Act, Done, Endless, Stage, Fetch, Store, Ask, Put, Look, Space, window, table, Field}
 use Rattle.rules.specs.Bytes.{bytes, number}
 use Rattle.rules.specs.Fields.{bitsOf, holds, settingOf}
-use Rattle.rules.specs.Carry.{Machine, World, Rec, stoodAt, stoodIn, Out, ok, no, bytesOf, withBytesOf, withDevice, there, legal, fetched, stored, line, lineOf, endLine, recorded, go, After, made, unmade, lastLines, written, cleared, leave, perform, undoRec, undo}
+use Rattle.rules.specs.Carry.{Machine, World, Rec, stoodAt, stoodIn, Out, ok, no, bytesOf, withBytesOf, withDevice, there, legal, fetched, stored, line, lineOf, endLine, recorded, go, After, made, unmade, lastLines, written, cleared, leave, perform, undoRec, undo, Lent}
 use Rattle.rules.specs.TakeBack.{value, allSound, ends, decodeAll, takeGroup, takeLast, takeEnd, takeBack}
 use Rattle.rules.proofs.BytesLaws.{length-splice}
 use Rattle.rules.proofs.Steps.{putting}
@@ -117,9 +117,9 @@ module _ (base : ℕ) {n k : ℕ} where
   unfolding cleared
   cleared-lasts u h = record { window-is = h .window-is; journal-is = omega (arith, length-replicate {A = ℕ} (length (u .free)) 0, h .journal-is); whole = h .whole }
 
-  pub perform-lasts : (staging : ℕ) {A : Type 0} (m : Act A) (u : World) → Lasts n k u → Ending (Lasts n k) (perform base staging m u)
+  pub perform-lasts : (lent : Lent) {A : Type 0} (m : Act A) (u : World) → Lasts n k u → Ending (Lasts n k) (perform base lent m u)
   unfolding perform leave
-  perform-lasts staging {A} m u h = left (go base staging m u) (go-keeps base staging (Lasts n k) store-lasts put-lasts m u h)
+  perform-lasts lent {A} m u h = left (go base lent m u) (go-keeps base lent (Lasts n k) store-lasts put-lasts m u h)
     where
       left : (o : Out A) → AtEnd (Lasts n k) o → Ending (Lasts n k) (leave u o)
       left (no i v) l = cleared-lasts u h
@@ -154,41 +154,41 @@ abbrev Numbered : {A : Type 0} → Out A → Type 0
 Numbered (ok a u) = Unit {0}
 Numbered (no n u) = (9 ≤ n) × (n ≤ 11)
 
-go-numbered : (base staging : ℕ) {A : Type 0} (m : Act A) (u : World) → Numbered (go base staging m u)
+go-numbered : (base : ℕ) (lent : Lent) {A : Type 0} (m : Act A) (u : World) → Numbered (go base lent m u)
 unfolding go
-go-numbered base staging (Done a) u = tt
-go-numbered base staging Endless u = (lit≤ tt, lit≤ tt)
-go-numbered base staging {A} (Stage n k) u =
-    elim (leb n staging) as (λ b. Numbered {A = A} (elim b [ true ↦ go base staging k u | false ↦ no 10 u ])) [
-      | true ↦ go-numbered base staging k u
+go-numbered base lent (Done a) u = tt
+go-numbered base lent Endless u = (lit≤ tt, lit≤ tt)
+go-numbered base lent {A} (Stage n k) u =
+    elim (leb n (lent .staging)) as (λ b. Numbered {A = A} (elim b [ true ↦ go base lent k u | false ↦ no 10 u ])) [
+      | true ↦ go-numbered base lent k u
       | false ↦ (lit≤ tt, lit≤ tt)
     ]
-go-numbered base staging {A} (Fetch sp a n k) u =
+go-numbered base lent {A} (Fetch sp a n k) u =
     let l = fetched base sp a n (u .now) in
-    elim (there base sp a n (u .now)) as (λ b. Numbered {A = A} (elim b [ true ↦ go base staging (k l) u | false ↦ no 9 u ])) [
-      | true ↦ go-numbered base staging (k l) u
+    elim (there base sp a n (u .now)) as (λ b. Numbered {A = A} (elim b [ true ↦ go base lent (k l) u | false ↦ no 9 u ])) [
+      | true ↦ go-numbered base lent (k l) u
       | false ↦ (lit≤ tt, lit≤ tt)
     ]
-go-numbered base staging {A} (Store sp a n v k) u =
+go-numbered base lent {A} (Store sp a n v k) u =
     let r = recorded base sp a n v u in
     elim (there base sp a n (u .now) && legal sp n) as (λ b. Numbered {A = A} (elim b [
-      | true ↦ elim (leb 16 (length (u .free))) [ true ↦ go base staging k r | false ↦ no 11 u ]
+      | true ↦ elim (leb 16 (length (u .free))) [ true ↦ go base lent k r | false ↦ no 11 u ]
       | false ↦ no 9 u
     ])) [
-      | true ↦ elim (leb 16 (length (u .free))) as (λ b. Numbered {A = A} (elim b [ true ↦ go base staging k r | false ↦ no 11 u ])) [
-        | true ↦ go-numbered base staging k r
+      | true ↦ elim (leb 16 (length (u .free))) as (λ b. Numbered {A = A} (elim b [ true ↦ go base lent k r | false ↦ no 11 u ])) [
+        | true ↦ go-numbered base lent k r
         | false ↦ (lit≤ tt, lit≤ tt)
       ]
       | false ↦ (lit≤ tt, lit≤ tt)
     ]
-go-numbered base staging (Ask f k) u = go-numbered base staging (k (holds f (u .now .dev))) u
-go-numbered base staging (Put f v k) u = go-numbered base staging k (putting f (v % 2 ^ bitsOf f) u)
-go-numbered base staging (Look s k) u = go-numbered base staging (k (settingOf s (u .now .dev))) u
+go-numbered base lent (Ask f k) u = go-numbered base lent (k (holds f (u .now .dev))) u
+go-numbered base lent (Put f v k) u = go-numbered base lent k (putting f (v % 2 ^ bitsOf f) u)
+go-numbered base lent (Look s k) u = go-numbered base lent (k (settingOf s (u .now .dev))) u
 
 -- and so an act is
-pub act-number : (base staging : ℕ) {A : Type 0} (m : Act A) (u : World) (n : ℕ) (v : World) → perform base staging m u ≡ unmade n v → (9 ≤ n) × (n ≤ 11)
+pub act-number : (base : ℕ) (lent : Lent) {A : Type 0} (m : Act A) (u : World) (n : ℕ) (v : World) → perform base lent m u ≡ unmade n v → (9 ≤ n) × (n ≤ 11)
 unfolding perform leave
-act-number base staging {A} m u n v = left (go base staging m u) (go-numbered base staging m u)
+act-number base lent {A} m u n v = left (go base lent m u) (go-numbered base lent m u)
   where
     left : (o : Out A) → Numbered o → leave u o ≡ unmade n v → (9 ≤ n) × (n ≤ 11)
     left (no i w) l e = let p : i ≡ n = cc in rw p at l

@@ -7,7 +7,7 @@ use borrow.Author.Tests.{leb-true}
 use lib.Dec.{leb}
 use lib.ListN.{length, length-drop}
 use Rattle.rules.specs.Act.{Act, Done, Space, store, _>>=_, _>>_}
-use Rattle.rules.specs.Carry.{World, Out, ok, no, there, legal, recorded, go}
+use Rattle.rules.specs.Carry.{World, Out, ok, no, there, legal, recorded, go, Lent}
 use Rattle.rules.proofs.Steps.{andThen, go-bind}
 use Rattle.rules.proofs.Keeps.{AtEnd, go-keeps}
 use Rattle.rules.proofs.Each.{Proper, proper-store, proper-put}
@@ -17,10 +17,10 @@ abbrev pub IfAnswered : {A : Type 0} → (A → World → Type 0) → Out A → 
 IfAnswered Q (ok a v) = Q a v
 IfAnswered Q (no n v) = Unit {0}
 
-module _ (base staging : ℕ) where
+module _ (base : ℕ) (lent : Lent) where
   -- from u, the steps of m lead to Q
   pub record Leads {A : Type 0} (u : World) (m : Act A) (Q : A → World → Type 0) : Type 0 where
-    pub answered : IfAnswered Q (go base staging m u)
+    pub answered : IfAnswered Q (go base lent m u)
 
 bound : {A B : Type 0} (P : A → World → Type 0) (Q : B → World → Type 0) (o : Out A) (f : A → World → Out B) → IfAnswered P o
     → ((a : A) (v : World) → P a v → IfAnswered Q (f a v)) → IfAnswered Q (andThen o f)
@@ -28,53 +28,53 @@ unfolding andThen
 bound P Q (ok a v) f p q = q a v p
 bound P Q (no n v) f p q = tt
 
-module _ {base staging : ℕ} where
+module _ {base : ℕ} {lent : Lent} where
   pub leads-bind : {A B : Type 0} {u : World} {m : Act A} {f : A → Act B} {P : A → World → Type 0} {Q : B → World → Type 0}
-      → Leads base staging u m P → ((a : A) (v : World) → P a v → Leads base staging v (f a) Q) → Leads base staging u (m >>= f) Q
+      → Leads base lent u m P → ((a : A) (v : World) → P a v → Leads base lent v (f a) Q) → Leads base lent u (m >>= f) Q
   leads-bind {u = u} {m = m} {f = f} {P = P} {Q = Q} p q = record {
-    answered = rw (go-bind base staging m f u) (bound P Q (go base staging m u) _ (p .answered) (λ a v h. q a v h .answered));
+    answered = rw (go-bind base lent m f u) (bound P Q (go base lent m u) _ (p .answered) (λ a v h. q a v h .answered));
   }
 
   pub leads-then : {A B : Type 0} {u : World} {m : Act A} {k : Act B} {P : A → World → Type 0} {Q : B → World → Type 0}
-      → Leads base staging u m P → ((a : A) (v : World) → P a v → Leads base staging v k Q) → Leads base staging u (m >> k) Q
+      → Leads base lent u m P → ((a : A) (v : World) → P a v → Leads base lent v k Q) → Leads base lent u (m >> k) Q
   unfolding _>>_
   leads-then p q = leads-bind p q
 
   pub leads-map : {A : Type 0} {u : World} {m : Act A} {P Q : A → World → Type 0}
-      → Leads base staging u m P → ((a : A) (v : World) → P a v → Q a v) → Leads base staging u m Q
-  leads-map {A = A} {u = u} {m = m} {P = P} {Q = Q} p q = record { answered = by-end (go base staging m u) (p .answered) }
+      → Leads base lent u m P → ((a : A) (v : World) → P a v → Q a v) → Leads base lent u m Q
+  leads-map {A = A} {u = u} {m = m} {P = P} {Q = Q} p q = record { answered = by-end (go base lent m u) (p .answered) }
     where
       by-end : (o : Out A) → IfAnswered P o → IfAnswered Q o
       by-end (ok a v) h = q a v h
       by-end (no n v) h = tt
 
   pub leads-both : {A : Type 0} {u : World} {m : Act A} {P Q : A → World → Type 0}
-      → Leads base staging u m P → Leads base staging u m Q → Leads base staging u m (λ a v. P a v × Q a v)
-  leads-both {A = A} {u = u} {m = m} {P = P} {Q = Q} p q = record { answered = by-end (go base staging m u) (p .answered) (q .answered) }
+      → Leads base lent u m P → Leads base lent u m Q → Leads base lent u m (λ a v. P a v × Q a v)
+  leads-both {A = A} {u = u} {m = m} {P = P} {Q = Q} p q = record { answered = by-end (go base lent m u) (p .answered) (q .answered) }
     where
       by-end : (o : Out A) → IfAnswered P o → IfAnswered Q o → IfAnswered (λ a v. P a v × Q a v) o
       by-end (ok a v) h k = (h, k)
       by-end (no n v) h k = tt
 
-  pub leads-done : {A : Type 0} {u : World} {a : A} {Q : A → World → Type 0} → Q a u → Leads base staging u (Done a) Q
+  pub leads-done : {A : Type 0} {u : World} {a : A} {Q : A → World → Type 0} → Q a u → Leads base lent u (Done a) Q
   unfolding go
   leads-done h = record { answered = h }
 
   pub leads-cond : {A : Type 0} {u : World} (b : Bool) {m k : Act A} {Q : A → World → Type 0}
-      → (b ≡ true → Leads base staging u m Q) → (b ≡ false → Leads base staging u k Q) → Leads base staging u (cond b m k) Q
+      → (b ≡ true → Leads base lent u m Q) → (b ≡ false → Leads base lent u k Q) → Leads base lent u (cond b m k) Q
   leads-cond true p q = p refl
   leads-cond false p q = q refl
 
   -- what is so in any case
-  pub leads-end : {A : Type 0} {P : World → Type 0} (m : Act A) (u : World) → AtEnd P (go base staging m u) → Leads base staging u m (λ _ v. P v)
-  leads-end {A = A} {P = P} m u p = record { answered = by-end (go base staging m u) p }
+  pub leads-end : {A : Type 0} {P : World → Type 0} (m : Act A) (u : World) → AtEnd P (go base lent m u) → Leads base lent u m (λ _ v. P v)
+  leads-end {A = A} {P = P} m u p = record { answered = by-end (go base lent m u) p }
     where
       by-end : (o : Out A) → AtEnd P o → IfAnswered (λ _ v. P v) o
       by-end (ok a v) h = h
       by-end (no n v) h = tt
 
   -- one store
-  pub leads-store : (sp : Space) (a n v : ℕ) (u : World) → Leads base staging u (store sp a n v) (λ _ w. (w ≡ recorded base sp a n v u) × (16 ≤ length (u .free)))
+  pub leads-store : (sp : Space) (a n v : ℕ) (u : World) → Leads base lent u (store sp a n v) (λ _ w. (w ≡ recorded base sp a n v u) × (16 ≤ length (u .free)))
   unfolding go store
   leads-store sp a n v u = record { answered = made-or (there base sp a n (u .now) && legal sp n) (leb 16 (length (u .free))) refl }
     where
@@ -92,17 +92,17 @@ pub one-record : (base : ℕ) (sp : Space) (a n v : ℕ) (u : World) → length 
 unfolding recorded
 one-record base sp a n v u = length-drop 16 (u .free)
 
-module _ {base staging : ℕ} where
+module _ {base : ℕ} {lent : Lent} where
   -- no act gives room back
-  pub shrinks : {A : Type 0} (m : Act A) (u : World) (most : ℕ) → length (u .free) ≤ most → Leads base staging u m (λ _ v. length (v .free) ≤ most)
+  pub shrinks : {A : Type 0} (m : Act A) (u : World) (most : ℕ) → length (u .free) ≤ most → Leads base lent u m (λ _ v. length (v .free) ≤ most)
   shrinks m u most h =
       leads-end m u
-      (go-keeps base staging (λ v. length (v .free) ≤ most) (λ sp a n v w t l r k. omega (arith, one-record base sp a n v w)) (λ f v w k. k) m u h)
+      (go-keeps base lent (λ v. length (v .free) ≤ most) (λ sp a n v w t l r k. omega (arith, one-record base sp a n v w)) (λ f v w k. k) m u h)
 
   -- a proper device stays one
-  pub proper-kept : {A : Type 0} (m : Act A) (u : World) → Proper (u .now .dev) → Leads base staging u m (λ _ v. Proper (v .now .dev))
+  pub proper-kept : {A : Type 0} (m : Act A) (u : World) → Proper (u .now .dev) → Leads base lent u m (λ _ v. Proper (v .now .dev))
   proper-kept m u p =
-      leads-end m u (go-keeps base staging (λ v. Proper (v .now .dev)) (λ sp a n v w _ _ _ q. proper-store base w q sp a n v) (λ f v w q. proper-put f v w q) m u p)
+      leads-end m u (go-keeps base lent (λ v. Proper (v .now .dev)) (λ sp a n v w _ _ _ q. proper-store base w q sp a n v) (λ f v w q. proper-put f v w q) m u p)
 
 -- ---- two acts that begin alike
 
@@ -112,15 +112,15 @@ unfolding andThen
 same-after P (ok a v) f g p q = q a v p
 same-after P (no n v) f g p q = refl
 
-module _ {base staging : ℕ} where
+module _ {base : ℕ} {lent : Lent} where
   -- from where the first act leads they go on alike
-  pub same-bind : {A B : Type 0} {u : World} {m : Act A} {P : A → World → Type 0} (f g : A → Act B) → Leads base staging u m P
-      → ((a : A) (v : World) → P a v → go base staging (f a) v ≡ go base staging (g a) v) → go base staging (m >>= f) u ≡ go base staging (m >>= g) u
+  pub same-bind : {A B : Type 0} {u : World} {m : Act A} {P : A → World → Type 0} (f g : A → Act B) → Leads base lent u m P
+      → ((a : A) (v : World) → P a v → go base lent (f a) v ≡ go base lent (g a) v) → go base lent (m >>= f) u ≡ go base lent (m >>= g) u
   same-bind {u = u} {m = m} {P = P} f g p q =
-      go-bind base staging m f u ∙ same-after P (go base staging m u) _ _ (p .answered) q ∙ sym (go-bind base staging m g u)
+      go-bind base lent m f u ∙ same-after P (go base lent m u) _ _ (p .answered) q ∙ sym (go-bind base lent m g u)
 
-module _ (base staging : ℕ) where
-  pub same-cond : {A : Type 0} (u : World) (b : Bool) (x y z w : Act A) → (b ≡ true → go base staging x u ≡ go base staging z u)
-      → (b ≡ false → go base staging y u ≡ go base staging w u) → go base staging (cond b x y) u ≡ go base staging (cond b z w) u
+module _ (base : ℕ) (lent : Lent) where
+  pub same-cond : {A : Type 0} (u : World) (b : Bool) (x y z w : Act A) → (b ≡ true → go base lent x u ≡ go base lent z u)
+      → (b ≡ false → go base lent y u ≡ go base lent w u) → go base lent (cond b x y) u ≡ go base lent (cond b z w) u
   same-cond u true x y z w p q = p refl
   same-cond u false x y z w p q = q refl

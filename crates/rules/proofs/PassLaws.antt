@@ -15,7 +15,7 @@ use Rattle.rules.specs.State.{Device}
 use Rattle.rules.specs.declared.Tcd.{Tcd}
 use Rattle.rules.specs.Act.{Act, fetch, store, ask, change, when, Space, window, table, KICK, INT, ERQ, MAJORS, CR}
 use Rattle.rules.specs.Act as acts
-use Rattle.rules.specs.Carry.{World, ok, no, bytesOf, withBytesOf, indexOf, stored, fetched, withDevice, legal, there, recorded, go}
+use Rattle.rules.specs.Carry.{World, ok, no, bytesOf, withBytesOf, indexOf, stored, fetched, withDevice, legal, there, recorded, go, Lent}
 use Rattle.rules.specs.Bytes.{bytes, number, part, splice}
 use Rattle.rules.specs.Fields.{bitsOf, holds, withField, partsOf}
 use Rattle.rules.specs.Words.{has, linked, countOf, recount, sizeOf, unitOf}
@@ -219,13 +219,13 @@ module _ {r : Rights} (ch : ℕ) (p : OfPass r ch) where
 
 -- ---- room in the journal
 
-module _ {base staging : ℕ} where
-  store-room : (sp : Space) (a n v : ℕ) (u : World) (most : ℕ) → length (u .free) ≤ most → Leads base staging u (store sp a n v) (λ _ w. length (w .free) + 16 ≤ most)
+module _ {base : ℕ} {lent : Lent} where
+  store-room : (sp : Space) (a n v : ℕ) (u : World) (most : ℕ) → length (u .free) ≤ most → Leads base lent u (store sp a n v) (λ _ w. length (w .free) + 16 ≤ most)
   store-room sp a n v u most h =
       leads-map (leads-store sp a n v u) (λ _ w k. omega (arith, one-record base sp a n v u, ap (λ (x : World). length (x .free)) (k .0), k .1))
 
   -- the four stores of a pass are four records
-  stores-room : (ch s d citer csr : ℕ) (u : World) → Leads base staging u (minorStores ch s d citer csr) (λ _ v. length (v .free) + 64 ≤ length (u .free))
+  stores-room : (ch s d citer csr : ℕ) (u : World) → Leads base lent u (minorStores ch s d citer csr) (λ _ v. length (v .free) + 64 ≤ length (u .free))
   unfolding minorStores
   stores-room ch s d citer csr u =
       leads-then (store-room _ _ _ _ u (length (u .free)) (omega arith)) λ _ v h.
@@ -234,7 +234,7 @@ module _ {base staging : ℕ} where
       leads-map (store-room _ _ _ _ x (length (u .free) - 48) (omega arith)) λ _ y i. omega arith
 
   minor-room : (ch : ℕ) (t : Tcd) (s d : ℕ) (u : World) (most : ℕ) → length (u .free) ≤ most
-      → Leads base staging u (minorEnd ch t s d) (λ _ v. length (v .free) + 64 ≤ most)
+      → Leads base lent u (minorEnd ch t s d) (λ _ v. length (v .free) + 64 ≤ most)
   unfolding minorEnd
   minor-room ch t s d u most h =
       leads-then (stores-room ch _ _ _ _ u) λ _ v k.
@@ -242,7 +242,7 @@ module _ {base staging : ℕ} where
       leads-map (shrinks (cond (eqb (countOf (t .citer) - 1) 0) _ _) w (most - 64) l) λ _ x i. omega arith
 
   -- a pass that answers yes writes four records at least
-  pub pass-room : (ch : ℕ) (u : World) → Leads base staging u (pass ch) (λ went v. went ≡ true → length (v .free) + 64 ≤ length (u .free))
+  pub pass-room : (ch : ℕ) (u : World) → Leads base lent u (pass ch) (λ went v. went ≡ true → length (v .free) + 64 ≤ length (u .free))
   unfolding pass
   pass-room ch u =
       leads-bind (shrinks (descriptor ch) u (length (u .free)) (omega arith)) λ t v h.
@@ -343,21 +343,21 @@ module _ (base ch : ℕ) where
       ∙ ap number (part-splice-same t i (bytes 2 x) (omega (arith, length-bytes 2 x, p .size)))
       ∙ value-fits 2 l
 
-module _ {base staging : ℕ} where
+module _ {base : ℕ} {lent : Lent} where
   pub majors-kept : {A : Type 0} (ch x : ℕ) {m : Act A} → Each (sparingMajors ch) m → (u : World) → Properly (Majors ch x) u
-      → Leads base staging u m (λ _ v. Properly (Majors ch x) v)
+      → Leads base lent u m (λ _ v. Properly (Majors ch x) v)
   unfolding sparingMajors withDevice
   majors-kept ch x {m} e u p =
       leads-end m u
-      (each-keeps base staging (sparingMajors ch) (Majors ch x)
+      (each-keeps base lent (sparingMajors ch) (Majors ch x)
       (λ sp a n v w _ _ _ h. majors-unstored base ch sp a n v w ∙ h) (λ f v w _ s h. s _ (w .now .dev) ∙ h) e u p)
 
   pub count-kept : {A : Type 0} (ch x : ℕ) {m : Act A} → Each (sparingCount ch) m → (u : World) → Properly (Citer ch x) u
-      → Leads base staging u m (λ _ v. Properly (Citer ch x) v)
+      → Leads base lent u m (λ _ v. Properly (Citer ch x) v)
   unfolding sparingCount withDevice citerAt
   count-kept ch x {m} e u p =
       leads-end m u
-      (each-keeps base staging (sparingCount ch) (Citer ch x)
+      (each-keeps base lent (sparingCount ch) (Citer ch x)
       (λ sp a n v w _ s _ h. citer-unstored base ch sp a n v w s ∙ h)
       (λ f v w q _ h. ap (λ t. number (part t (32 * ch + 0x14) 2)) (put-law f _ (w .now .dev) (q .sound .three) .table) ∙ h)
       e u p)
@@ -373,16 +373,16 @@ majors-put : (ch x : ℕ) (u : World) → ch < 64 → Proper (u .now .dev) → M
 unfolding withDevice partsOf
 majors-put ch x u h p = getD-set-same (u .now .dev .majors) ch x 0 (omega (arith, sized (u .now .dev) (p .sound) .1 .1 .0))
 
-module _ {base staging : ℕ} (ch : ℕ) (h : ch < 64) where
+module _ {base : ℕ} {lent : Lent} (ch : ℕ) (h : ch < 64) where
   -- majors + 1
   leads-majors : (x : ℕ) (u : World) → Properly (Majors ch x) u
-      → Leads base staging u (change (MAJORS ch) (λ n. (n + 1) % 2 ^ 64)) (λ _ v. Properly (Majors ch ((x + 1) % 2 ^ 64)) v)
+      → Leads base lent u (change (MAJORS ch) (λ n. (n + 1) % 2 ^ 64)) (λ _ v. Properly (Majors ch ((x + 1) % 2 ^ 64)) v)
   unfolding go change bitsOf
   leads-majors x u p =
       let n = holds (MAJORS ch) (u .now .dev) in
       record { answered = (proper-put (MAJORS ch) ((n + 1) % 2 ^ 64) u (p .0), majors-put ch _ u h (p .0) ∙ omega (arith, p .1)) }
 
-  majors-rise : (x : ℕ) (u : World) → Properly (Majors ch x) u → Leads base staging u (majorEnd ch) (λ _ v. Properly (Majors ch ((x + 1) % 2 ^ 64)) v)
+  majors-rise : (x : ℕ) (u : World) → Properly (Majors ch x) u → Leads base lent u (majorEnd ch) (λ _ v. Properly (Majors ch ((x + 1) % 2 ^ 64)) v)
   unfolding majorEnd sparingMajors
   majors-rise x u p =
       leads-bind (majors-kept ch x (descriptor-each ch tt) u p) λ t v q.
@@ -396,7 +396,7 @@ module _ {base staging : ℕ} (ch : ℕ) (h : ch < 64) where
 
   -- the count stored is there after the four stores
   stores-count : (s d citer csr : ℕ) (u : World) → citer < 2 ^ 16 → Proper (u .now .dev)
-      → Leads base staging u (minorStores ch s d citer csr) (λ _ v. Properly (Citer ch citer) v)
+      → Leads base lent u (minorStores ch s d citer csr) (λ _ v. Properly (Citer ch citer) v)
   unfolding minorStores sparingCount
   stores-count s d citer csr u l p =
       leads-then (proper-kept (store _ _ _ _) u p) λ _ v q.
@@ -407,12 +407,12 @@ module _ {base staging : ℕ} (ch : ℕ) (h : ch < 64) where
 
   -- what spares both spares each of them
   both-kept : {A : Type 0} (c x : ℕ) {m : Act A} → Each (sparingCount ch) m → Each (sparingMajors ch) m → (u : World)
-      → Properly (Citer ch c) u × Properly (Majors ch x) u → Leads base staging u m (λ _ v. Properly (Citer ch c) v × Properly (Majors ch x) v)
+      → Properly (Citer ch c) u × Properly (Majors ch x) u → Leads base lent u m (λ _ v. Properly (Citer ch c) v × Properly (Majors ch x) v)
   both-kept c x e f u p = leads-both (count-kept ch c e u (p .0)) (majors-kept ch x f u (p .1))
 
   -- the end of a pass: its stores, INTHALF, then the major end or the link
   minor-counts : (t : Tcd) (s d x : ℕ) (u : World) → t .citer < 2 ^ 16 → 0 < countOf (t .citer) → Properly (Majors ch x) u
-      → Leads base staging u (minorEnd ch t s d) (λ _ v. Counted ch (countOf (t .citer)) x (v .now .dev))
+      → Leads base lent u (minorEnd ch t s d) (λ _ v. Counted ch (countOf (t .citer)) x (v .now .dev))
   unfolding minorEnd sparingMajors sparingCount countAt
   minor-counts t s d x u l c p =
       let n = countOf (t .citer) - 1 in
@@ -425,7 +425,7 @@ module _ {base staging : ℕ} (ch : ℕ) (h : ch < 64) where
       leads-map (both-kept _ x (link-each ch _ _ tt (λ f. link-beside ch _ f) tt) (link-each ch _ _ tt (λ _. tt) (λ v d. refl)) w o) λ _ y k.
       fewer (rw (k .0 .1) (ap (λ (m : ℕ). m + 1) (r .0) ∙ omega arith)) (k .1 .1))
 
-  descriptor-citer : (u : World) → Leads base staging u (descriptor ch) (λ t v. t .citer ≡ citerAt ch (u .now .dev))
+  descriptor-citer : (u : World) → Leads base lent u (descriptor ch) (λ t v. t .citer ≡ citerAt ch (u .now .dev))
   unfolding descriptor go acts._>>=_ fetch tcdOf fetched bytesOf indexOf citerAt
   descriptor-citer u = record { answered = made-or (there base table (32 * ch) 32 (u .now)) }
     where
@@ -438,7 +438,7 @@ module _ {base staging : ℕ} (ch : ℕ) (h : ch < 64) where
 
   -- a pass that answers yes counts one
   pub pass-counts : (u : World) → Proper (u .now .dev)
-      → Leads base staging u (pass ch) (λ went v. went ≡ true → Counted ch (countAt ch (u .now .dev)) (holds (MAJORS ch) (u .now .dev)) (v .now .dev))
+      → Leads base lent u (pass ch) (λ went v. went ≡ true → Counted ch (countAt ch (u .now .dev)) (holds (MAJORS ch) (u .now .dev)) (v .now .dev))
   unfolding pass countAt sparingMajors citerAt
   pass-counts u p =
       let x = holds (MAJORS ch) (u .now .dev) in

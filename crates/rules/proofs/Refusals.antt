@@ -10,7 +10,7 @@ use lib.Dec.{eqb, leb, ltb}
 use lib.ListN.{length}
 use Rattle.rules.specs.Act.{Act, table}
 use Rattle.rules.specs.Calls.{Asked, write, inputs, pending, run, service, ack, setPending, orNothing, actOf, badSize, isNone, badWindow, badJournal, badTime, check, wrong, wrongBack, wrongRead, Told, told, numberTold, stagingAfter, worldOf, toldAfter, after, heardNothing, afterBack, ToldRead, toldRead, orZero, afterRead}
-use Rattle.rules.specs.Carry.{World, Out, ok, no, fetched, recorded, After, made, unmade, lastLines, written, cleared, leave, perform, go}
+use Rattle.rules.specs.Carry.{World, Out, ok, no, fetched, recorded, After, made, unmade, lastLines, written, cleared, leave, perform, go, Lent, lending}
 use Rattle.rules.specs.Fields.{bitsOf, holds, settingOf}
 use Rattle.rules.specs.Registers.{inBlocks, blockOf, offsetOf, writeIn, writeAt, readAt, pastTable, pastWord}
 use Rattle.rules.specs.TakeBack.{takeBack}
@@ -66,8 +66,8 @@ Full : {A : Type 0} → Out A → Type 0
 Full (ok a u) = Unit {0}
 Full (no n u) = n ≡ 11
 
-module _ (base staging : ℕ) where
-  aside-full : {t : ℕ → Bool} {A : Type 0} {m : Act A} → Each (sparing t) m → (u : World) → Proper (u .now .dev) → Full (goBare base staging m u)
+module _ (base : ℕ) (lent : Lent) where
+  aside-full : {t : ℕ → Bool} {A : Type 0} {m : Act A} → Each (sparing t) m → (u : World) → Proper (u .now .dev) → Full (goBare base lent m u)
   unfolding goBare Full
   aside-full at-done u p = tt
   aside-full at-endless u p = refl
@@ -75,7 +75,7 @@ module _ (base staging : ℕ) where
   aside-full (at-fetch {sp = table} {a} {n} h q) u p = aside-full (q _ (fetched-length base table a n (u .now))) u p
   aside-full {A = A} (at-store {sp = table} {a} {n} {v} {k} h q) u p =
       let r = recorded base table a n v u in
-      elim (leb 16 (length (u .free))) as (λ b. Full {A = A} (elim b [ true ↦ goBare base staging k r | false ↦ no 11 u ])) [
+      elim (leb 16 (length (u .free))) as (λ b. Full {A = A} (elim b [ true ↦ goBare base lent k r | false ↦ no 11 u ])) [
         | true ↦ aside-full q r (proper-store base u p table a n v)
         | false ↦ refl
       ]
@@ -112,31 +112,31 @@ module _ (base : ℕ) (d : Device) (window journal : List ℕ) (used : ℕ) wher
 
   -- of an outcome: refused by 1 to 8, or the act's
   by-wrong : (c : Asked) (staging : List ℕ) (l : List ℕ) → among (wrong base (length window) (length journal) used c) l ≡ true
-      → (wrong base (length window) (length journal) used c ≡ 0 → among (numberOfEnd (perform base (length staging) (actOf c) u)) l ≡ true)
+      → (wrong base (length window) (length journal) used c ≡ 0 → among (numberOfEnd (perform base (lending (length staging)) (actOf c) u)) l ≡ true)
       → among (numberTold (after c base d window staging journal used)) l ≡ true
   unfolding after u
   by-wrong c staging l p q = by-number (wrong base (length window) (length journal) used c) p q
     where
-      by-number : (n : ℕ) → among n l ≡ true → (n ≡ 0 → among (numberOfEnd (perform base (length staging) (actOf c) u)) l ≡ true)
+      by-number : (n : ℕ) → among n l ≡ true → (n ≡ 0 → among (numberOfEnd (perform base (lending (length staging)) (actOf c) u)) l ≡ true)
           → among (numberTold (elim n [
-            | zero ↦ toldAfter (stagingAfter c staging) used (perform base (length staging) (actOf c) u)
+            | zero ↦ toldAfter (stagingAfter c staging) used (perform base (lending (length staging)) (actOf c) u)
             | suc n ↦ told (suc n) Heard.Nothing d window staging journal used
           ])) l ≡ true
-      by-number zero p q = ap (λ n. among n l) (number-told (stagingAfter c staging) used (perform base (length staging) (actOf c) u)) ∙ q refl
+      by-number zero p q = ap (λ n. among n l) (number-told (stagingAfter c staging) used (perform base (lending (length staging)) (actOf c) u)) ∙ q refl
       by-number (suc n) p q = p
 
   module _ (c : Asked) (staging l : List ℕ) (accepted : among 0 l ≡ true) (full : among 11 l ≡ true) where
     -- without a window
     aside-among : Each (sparing anyArray) (actOf c) → Proper d → wrong base (length window) (length journal) used c ≡ 0
-        → among (numberOfEnd (perform base (length staging) (actOf c) u)) l ≡ true
+        → among (numberOfEnd (perform base (lending (length staging)) (actOf c) u)) l ≡ true
     unfolding perform Full u
-    aside-among e p right = leave-among u l accepted full (go base (length staging) (actOf c) u) (λ n v f.
-        let g : Full (go base (length staging) (actOf c) u) = subst (λ o. Full o) (sym (call-bare base (length staging) (length window) (length journal) used c right u p)) (aside-full base (length staging) e u p) in
+    aside-among e p right = leave-among u l accepted full (go base (lending (length staging)) (actOf c) u) (λ n v f.
+        let g : Full (go base (lending (length staging)) (actOf c) u) = subst (λ o. Full o) (sym (call-bare base (lending (length staging)) (length window) (length journal) used c right u p)) (aside-full base (lending (length staging)) e u p) in
         let k : n ≡ 11 = subst (λ o. Full o) f g in ap (λ i. among i l) k ∙ full)
 
     -- with one
-    within-among : among 9 l ≡ true → among 10 l ≡ true → among (numberOfEnd (perform base (length staging) (actOf c) u)) l ≡ true
-    within-among outside short = by-end (perform base (length staging) (actOf c) u) refl
+    within-among : among 9 l ≡ true → among 10 l ≡ true → among (numberOfEnd (perform base (lending (length staging)) (actOf c) u)) l ≡ true
+    within-among outside short = by-end (perform base (lending (length staging)) (actOf c) u) refl
       where
         one-of : (n : ℕ) → 9 ≤ n → n ≤ 11 → (a b : Bool) → eqb n 9 ≡ a → eqb n 10 ≡ b → among n l ≡ true
         one-of n h k true b e f = ap (λ i. among i l) (eqb-true n 9 e) ∙ outside
@@ -144,9 +144,9 @@ module _ (base : ℕ) (d : Device) (window journal : List ℕ) (used : ℕ) wher
         one-of n h k false false e f =
             let i : n ≡ 11 = omega (arith, eqb-false n 9 e, eqb-false n 10 f) in ap (λ j. among j l) i ∙ full
 
-        by-end : (o : After Heard World) → perform base (length staging) (actOf c) u ≡ o → among (numberOfEnd o) l ≡ true
+        by-end : (o : After Heard World) → perform base (lending (length staging)) (actOf c) u ≡ o → among (numberOfEnd o) l ≡ true
         by-end (made heard v) e = accepted
-        by-end (unmade n v) e = let r = act-number base (length staging) (actOf c) u n v e in one-of n (r .0) (r .1) (eqb n 9) (eqb n 10) refl refl
+        by-end (unmade n v) e = let r = act-number base (lending (length staging)) (actOf c) u n v e in one-of n (r .0) (r .1) (eqb n 9) (eqb n 10) refl refl
 
   -- the tests of the arguments, one after another
   timed-among : (now pace : ℕ) (l : List ℕ) → among 5 l ≡ true → among 6 l ≡ true → among 7 l ≡ true → among 0 l ≡ true
@@ -176,7 +176,7 @@ module _ (base : ℕ) (d : Device) (window journal : List ℕ) (used : ℕ) wher
   unfolding numbersOf among actOf writeAt anyArray
   act-numbers c staging p = by-wrong c staging (numbersOf c) (wrong-among c) (λ e. performed c e)
     where
-      performed : (c : Asked) → wrong base (length window) (length journal) used c ≡ 0 → among (numberOfEnd (perform base (length staging) (actOf c) u)) (numbersOf c) ≡ true
+      performed : (c : Asked) → wrong base (length window) (length journal) used c ≡ 0 → among (numberOfEnd (perform base (lending (length staging)) (actOf c) u)) (numbersOf c) ≡ true
       performed (write address size v) e =
           aside-among (write address size v) staging (numbersOf (write address size v)) refl refl (levelled-spares _ (write-aside (blockOf address) (offsetOf address) size v)) p e
       performed (inputs standing l0 l1 l2) e =

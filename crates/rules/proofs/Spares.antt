@@ -10,7 +10,7 @@ use lib.ListN.{getD, set}
 use Rattle.rules.specs.State.{Controller, Device}
 use Rattle.rules.specs.Act.{Act, Space, window, table, Field, CR, ERQ, EEI, INT, ERR, KICK, DEFERRED, DEADLINE, LEVEL, STANDING, MASKS, FORCED, LINES, CONFIG, BUSY, MAJORS, PENDING, TAKEN, SOURCE, IGNORE, nothing}
 use Rattle.rules.specs.Calls.{setInputs, setPending, orNothing, levelled}
-use Rattle.rules.specs.Carry.{World, stored, withBytesOf, withDevice, recorded, go}
+use Rattle.rules.specs.Carry.{World, stored, withBytesOf, withDevice, recorded, go, Lent}
 use Rattle.rules.specs.Fields.{controller, withField}
 use Rattle.rules.specs.Lines.{Found, sources, levelBytes, levelOf, relevel, heardFrom, hear, acknowledge}
 use Rattle.rules.specs.Registers.{within, inTable, flagOne, flagEach, setRequests, setStarts, clearDones, command, commands, tableWrite, Arm, pick, dmaArms, dmaWrite, levelsWrite, controllerArms, controllerWrite}
@@ -121,12 +121,12 @@ module _ (t : ℕ → Bool) (d₀ : Device) where
 
 -- ---- an act
 
-pub spares : (base staging : ℕ) (t : ℕ → Bool) {A : Type 0} {m : Act A} → Each (sparing t) m → (u : World) → Proper (u .now .dev)
-    → AtEnd (Properly (λ v. SameArrays t (u .now .dev) (v .now .dev))) (go base staging m u)
+pub spares : (base : ℕ) (lent : Lent) (t : ℕ → Bool) {A : Type 0} {m : Act A} → Each (sparing t) m → (u : World) → Proper (u .now .dev)
+    → AtEnd (Properly (λ v. SameArrays t (u .now .dev) (v .now .dev))) (go base lent m u)
 unfolding withDevice
-spares base staging t e u p =
+spares base lent t e u p =
     let d = u .now .dev in
-    each-keeps base staging (sparing t) (λ v. SameArrays t d (v .now .dev))
+    each-keeps base lent (sparing t) (λ v. SameArrays t d (v .now .dev))
     (λ sp a n v w _ _ _ h. store-same t d base sp a n v w h) (λ f v w _ a h. put-same t d f _ (w .now .dev) a h) e u
     (p, record { busy-is = λ _. refl; majors-is = λ _. refl; pending-is = λ _. refl; levels-are = λ _ _. refl; taken-is = λ _. refl })
 

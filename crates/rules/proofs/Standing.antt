@@ -7,7 +7,7 @@ use Prim.Native.Nat.{ℕ, _≤_, _^_}
 use native.Mathlib.Omega.{arith}
 use lib.ListN.{length, replicate, length-append, length-replicate}
 use Rattle.rules.specs.Act.{Act}
-use Rattle.rules.specs.Carry.{Machine, World, After, made, unmade, cleared, perform}
+use Rattle.rules.specs.Carry.{Machine, World, After, made, unmade, cleared, perform, Lent}
 use Rattle.rules.specs.TakeBack.{takeBack}
 use Rattle.rules.proofs.Keeps.{Good}
 use Rattle.rules.proofs.Back.{groupBytes, takenBack, take-back, take-none}
@@ -16,29 +16,29 @@ use Rattle.rules.proofs.Took.{Led, total, Took, accepted, refused}
 use Rattle.rules.proofs.History.{Entry, walk, Alone, Laws, history, one-stands, none-iff}
 
 -- a call: what, if anything, keeps it from being made before anything is done (a refusal's number; 0 for a register read), which goes by
--- what is seen and by the length of the room; the staging's length; its act's tree, with an answer of any type
+-- what is seen and by the length of the room; what it is lent; its act's tree, with an answer of any type
 pub record Call (A : Type 0) : Type 0 where
   pub before : World → Option ℕ
   pub before-same : (u v : World) → Agree u v → before u ≡ before v
-  pub staging : ℕ
+  pub lent : Lent
   pub act : Act A
 
 -- the call as it is made
 unfoldable pub makeCall : {A : Type 0} → ℕ → Call A → World → After A World
-makeCall base c u = elim (c .before u) [ none ↦ perform base (c .staging) (c .act) u | some n ↦ unmade n u ]
+makeCall base c u = elim (c .before u) [ none ↦ perform base (c .lent) (c .act) u | some n ↦ unmade n u ]
 
 module _ {A : Type 0} (base : ℕ) (c : Call A) where
   checked-agree : (b : Option ℕ) (u v : World) → Agree u v
       → AgreeAfter {A = A}
-      (elim b [ none ↦ perform base (c .staging) (c .act) u | some n ↦ unmade n u ])
-      (elim b [ none ↦ perform base (c .staging) (c .act) v | some n ↦ unmade n v ])
-  checked-agree none u v h = perform-agrees base (c .staging) (c .act) u v h
+      (elim b [ none ↦ perform base (c .lent) (c .act) u | some n ↦ unmade n u ])
+      (elim b [ none ↦ perform base (c .lent) (c .act) v | some n ↦ unmade n v ])
+  checked-agree none u v h = perform-agrees base (c .lent) (c .act) u v h
   checked-agree (some n) u v h = (refl, h)
 
   make-agrees : (u v : World) → Agree u v → AgreeAfter (makeCall base c u) (makeCall base c v)
   unfolding makeCall
   make-agrees u v h =
-      subst (λ b. AgreeAfter {A = A} (makeCall base c u) (elim b [ none ↦ perform base (c .staging) (c .act) v | some n ↦ unmade n v ])) (c .before-same u v h)
+      subst (λ b. AgreeAfter {A = A} (makeCall base c u) (elim b [ none ↦ perform base (c .lent) (c .act) v | some n ↦ unmade n v ])) (c .before-same u v h)
       (checked-agree (c .before u) u v h)
 
   -- made from one of two worlds that agree, it is made from the other, with the same answer
@@ -54,9 +54,9 @@ module _ {A : Type 0} (base : ℕ) (c : Call A) where
   unfolding makeCall cleared
   make-unmade u n v = checked (c .before u)
     where
-      checked : (b : Option ℕ) → _≡_ {A = After A World} (elim b [ none ↦ perform base (c .staging) (c .act) u | some k ↦ unmade k u ]) (unmade n v) → Agree v u
+      checked : (b : Option ℕ) → _≡_ {A = After A World} (elim b [ none ↦ perform base (c .lent) (c .act) u | some k ↦ unmade k u ]) (unmade n v) → Agree v u
       checked none e =
-          subst (λ w. Agree w u) (sym (refused base (c .staging) (c .act) u n v e)) (record { seen-is = refl; room-is = length-replicate (length (u .free)) 0 })
+          subst (λ w. Agree w u) (sym (refused base (c .lent) (c .act) u n v e)) (record { seen-is = refl; room-is = length-replicate (length (u .free)) 0 })
       checked (some k) e = let p : u ≡ v = cc in rw p (record { seen-is = refl; room-is = refl })
 
   -- made, it adds one group
@@ -64,8 +64,8 @@ module _ {A : Type 0} (base : ℕ) (c : Call A) where
   unfolding makeCall
   make-made u g small a v = checked (c .before u)
     where
-      checked : (b : Option ℕ) → _≡_ {A = After A World} (elim b [ none ↦ perform base (c .staging) (c .act) u | some k ↦ unmade k u ]) (made a v) → Took base u v
-      checked none e = accepted base u g small (c .staging) (c .act) a v e
+      checked : (b : Option ℕ) → _≡_ {A = After A World} (elim b [ none ↦ perform base (c .lent) (c .act) u | some k ↦ unmade k u ]) (made a v) → Took base u v
+      checked none e = accepted base u g small (c .lent) (c .act) a v e
       checked (some k) e = let z : _≡_ {A = ℕ} 0 1 = cc in absurd (omega arith)
 
 -- a take-back that is always refused

@@ -12,7 +12,7 @@ use lib.Pow.{pow-pos}
 use Rattle.rules.specs.Act.{Act, Space, window, table, Field, CR, ERQ, EEI, INT, ERR, KICK, DEFERRED, DEADLINE, LEVEL, STANDING, MASKS, FORCED, LINES, CONFIG, BUSY, MAJORS, PENDING, SOURCE, TAKEN}
 use Rattle.rules.specs.Bytes.{bytes, splice}
 use Rattle.rules.specs.Calls.{Asked, actOf, wrong, wrongBack, told, deviceTold, stagingAfter, worldOf, toldAfter, after, heardNothing, afterBack}
-use Rattle.rules.specs.Carry.{Machine, World, Out, ok, no, bytesOf, withBytesOf, withDevice, indexOf, stored, recorded, go, After, made, unmade, lastLines, written, cleared, leave, perform, undoRec, undo}
+use Rattle.rules.specs.Carry.{Machine, World, Out, ok, no, bytesOf, withBytesOf, withDevice, indexOf, stored, recorded, go, After, made, unmade, lastLines, written, cleared, leave, perform, undoRec, undo, Lent, lending}
 use Rattle.rules.specs.Fields.{bitsOf, withField, fieldAt, withSome, fitsSome}
 use Rattle.rules.specs.TakeBack.{marked, kind, width, place, value, soundField, soundKind, sound, allSound, recOf, decode, decodeAll, takeBack}
 use Rattle.rules.specs.With.{withTable}
@@ -39,11 +39,11 @@ module _ (P : Device → Type 0) (onTable : (i n v : ℕ) (d : Device) → P d �
     stored-stays base window a n v m p = p
     stored-stays base table a n v m p = onTable (indexOf base table a) n v (m .dev) p
 
-    perform-stays : (base staging : ℕ) {A : Type 0} (m : Act A) (u : World) → P (u .now .dev) → Ending On (perform base staging m u)
+    perform-stays : (base : ℕ) (lent : Lent) {A : Type 0} (m : Act A) (u : World) → P (u .now .dev) → Ending On (perform base lent m u)
     unfolding perform leave written cleared recorded withDevice
-    perform-stays base staging {A} m u p =
-        left (go base staging m u)
-        (go-keeps base staging On (λ sp a n v w _ _ _ q. stored-stays base sp a n v (w .now) q)
+    perform-stays base lent {A} m u p =
+        left (go base lent m u)
+        (go-keeps base lent On (λ sp a n v w _ _ _ q. stored-stays base sp a n v (w .now) q)
         (λ f v w q. onField f (v % 2 ^ bitsOf f) (w .now .dev) (mod-lt v (pow-pos (bitsOf f))) q) m u p)
       where
         left : (o : Out A) → AtEnd On o → Ending On (leave u o)
@@ -94,10 +94,10 @@ module _ (P : Device → Type 0) (onTable : (i n v : ℕ) (d : Device) → P d �
       act-stays c staging = by-number (wrong base (length window) (length journal) used c)
         where
           by-number : (n : ℕ) → P (deviceTold (elim n [
-            | zero ↦ toldAfter (stagingAfter c staging) used (perform base (length staging) (actOf c) (worldOf d window journal used))
+            | zero ↦ toldAfter (stagingAfter c staging) used (perform base (lending (length staging)) (actOf c) (worldOf d window journal used))
             | suc n ↦ told (suc n) Heard.Nothing d window staging journal used
           ]))
-          by-number zero = told-stays _ used _ (perform-stays base (length staging) (actOf c) (worldOf d window journal used) p)
+          by-number zero = told-stays _ used _ (perform-stays base (lending (length staging)) (actOf c) (worldOf d window journal used) p)
           by-number (suc n) = p
 
       back-stays : P (deviceTold (afterBack base d window journal used))

@@ -9,7 +9,7 @@ use lib.Dec.{leb}
 use lib.ListN.{length}
 use Rattle.rules.specs.Act.{Act, Done, Endless, Stage, Fetch, Store, Ask, Put, Look, Space, window, table, Field, _>>=_, _>>_, nothing, store, ask, put, change}
 use Rattle.rules.specs.Fields.{bitsOf, holds, withField}
-use Rattle.rules.specs.Carry.{Machine, World, Out, ok, no, withDevice, there, legal, fetched, recorded, go, unmade, lastLines, cleared, leave}
+use Rattle.rules.specs.Carry.{Machine, World, Out, ok, no, withDevice, there, legal, fetched, recorded, go, unmade, lastLines, cleared, leave, Lent}
 use Rattle.rules.proofs.BoolLaws.{and-both}
 
 -- ---- composition
@@ -24,45 +24,45 @@ either : {A B : Type 0} (b : Bool) (x y : Out A) (f : A → World → Out B) {x�
 either true x y f p q = p
 either false x y f p q = q
 
-module _ (base staging : ℕ) where
+module _ (base : ℕ) (lent : Lent) where
   -- the steps of `m >>= f` are those of m, then those of f of its answer
-  pub go-bind : {A B : Type 0} (m : Act A) (f : A → Act B) (u : World) → go base staging (m >>= f) u ≡ andThen (go base staging m u) (λ a. go base staging (f a))
+  pub go-bind : {A B : Type 0} (m : Act A) (f : A → Act B) (u : World) → go base lent (m >>= f) u ≡ andThen (go base lent m u) (λ a. go base lent (f a))
   unfolding go _>>=_ andThen
   go-bind (Done a) f u = refl
   go-bind Endless f u = refl
-  go-bind (Stage n k) f u = either (leb n staging) (go base staging k u) (no 10 u) (λ a. go base staging (f a)) (go-bind k f u) refl
+  go-bind (Stage n k) f u = either (leb n (lent .staging)) (go base lent k u) (no 10 u) (λ a. go base lent (f a)) (go-bind k f u) refl
   go-bind (Fetch sp a n k) f u =
       let l = fetched base sp a n (u .now) in
-      either (there base sp a n (u .now)) (go base staging (k l) u) (no 9 u) (λ a. go base staging (f a)) (go-bind (k l) f u) refl
+      either (there base sp a n (u .now)) (go base lent (k l) u) (no 9 u) (λ a. go base lent (f a)) (go-bind (k l) f u) refl
   go-bind (Store sp a n v k) f u =
-      let o = go base staging k (recorded base sp a n v u) in
+      let o = go base lent k (recorded base sp a n v u) in
       let room = leb 16 (length (u .free)) in
-      either (there base sp a n (u .now) && legal sp n) (elim room [ true ↦ o | false ↦ no 11 u ]) (no 9 u) (λ a. go base staging (f a))
-      (either room o (no 11 u) (λ a. go base staging (f a)) (go-bind k f (recorded base sp a n v u)) refl) refl
+      either (there base sp a n (u .now) && legal sp n) (elim room [ true ↦ o | false ↦ no 11 u ]) (no 9 u) (λ a. go base lent (f a))
+      (either room o (no 11 u) (λ a. go base lent (f a)) (go-bind k f (recorded base sp a n v u)) refl) refl
   go-bind (Ask n k) f u = go-bind (k _) f u
   go-bind (Put n v k) f u = go-bind k f _
   go-bind (Look s k) f u = go-bind (k _) f u
 
-  pub go-then : {A B : Type 0} (m : Act A) (k : Act B) (u : World) → go base staging (m >> k) u ≡ andThen (go base staging m u) (λ _. go base staging k)
+  pub go-then : {A B : Type 0} (m : Act A) (k : Act B) (u : World) → go base lent (m >> k) u ≡ andThen (go base lent m u) (λ _. go base lent k)
   unfolding _>>_
   go-then m k u = go-bind m (λ _. k) u
 
   -- by how the first act ends
   module _ {A B : Type 0} (m : Act A) (f : A → Act B) (u : World) where
-    pub bind-ok : {a : A} {v : World} → go base staging m u ≡ ok a v → go base staging (m >>= f) u ≡ go base staging (f a) v
+    pub bind-ok : {a : A} {v : World} → go base lent m u ≡ ok a v → go base lent (m >>= f) u ≡ go base lent (f a) v
     unfolding andThen
-    bind-ok e = go-bind m f u ∙ ap (λ (o : Out A). andThen o (λ a. go base staging (f a))) e
+    bind-ok e = go-bind m f u ∙ ap (λ (o : Out A). andThen o (λ a. go base lent (f a))) e
 
-    pub bind-no : {n : ℕ} {v : World} → go base staging m u ≡ no n v → go base staging (m >>= f) u ≡ no n v
+    pub bind-no : {n : ℕ} {v : World} → go base lent m u ≡ no n v → go base lent (m >>= f) u ≡ no n v
     unfolding andThen
-    bind-no e = go-bind m f u ∙ ap (λ (o : Out A). andThen o (λ a. go base staging (f a))) e
+    bind-no e = go-bind m f u ∙ ap (λ (o : Out A). andThen o (λ a. go base lent (f a))) e
 
   module _ {A B : Type 0} (m : Act A) (k : Act B) (u : World) where
-    pub then-ok : {a : A} {v : World} → go base staging m u ≡ ok a v → go base staging (m >> k) u ≡ go base staging k v
+    pub then-ok : {a : A} {v : World} → go base lent m u ≡ ok a v → go base lent (m >> k) u ≡ go base lent k v
     unfolding _>>_
     then-ok e = bind-ok m (λ _. k) u e
 
-    pub then-no : {n : ℕ} {v : World} → go base staging m u ≡ no n v → go base staging (m >> k) u ≡ no n v
+    pub then-no : {n : ℕ} {v : World} → go base lent m u ≡ no n v → go base lent (m >> k) u ≡ no n v
     unfolding _>>_
     then-no e = bind-no m (λ _. k) u e
 
@@ -99,85 +99,85 @@ module _ (base a w : ℕ) (m : Machine) where
 abbrev pub putting : Field → ℕ → World → World
 putting f v u = record { now = withDevice (withField f v (u .now .dev)) (u .now); used = u .used; free = u .free }
 
-module _ (base staging : ℕ) {A : Type 0} where
-  pub go-done : (a : A) (u : World) → go base staging (Done a) u ≡ ok a u
+module _ (base : ℕ) (lent : Lent) {A : Type 0} where
+  pub go-done : (a : A) (u : World) → go base lent (Done a) u ≡ ok a u
   unfolding go
   go-done a u = refl
 
-  pub go-endless : (u : World) → go base staging {A = A} Endless u ≡ no 11 u
+  pub go-endless : (u : World) → go base lent {A = A} Endless u ≡ no 11 u
   unfolding go
   go-endless u = refl
 
   module _ (n : ℕ) (k : Act A) (u : World) where
-    pub stage-enough : n ≤ staging → go base staging (Stage n k) u ≡ go base staging k u
+    pub stage-enough : n ≤ lent .staging → go base lent (Stage n k) u ≡ go base lent k u
     unfolding go
-    stage-enough h = rw (le-leb n staging h, go)
+    stage-enough h = rw (le-leb n (lent .staging) h, go)
 
-    pub stage-short : staging < n → go base staging (Stage n k) u ≡ no 10 u
+    pub stage-short : lent .staging < n → go base lent (Stage n k) u ≡ no 10 u
     unfolding go
-    stage-short h = rw (lt-leb n staging h, go)
+    stage-short h = rw (lt-leb n (lent .staging) h, go)
 
   module _ (sp : Space) (a n : ℕ) (k : List ℕ → Act A) (u : World) where
-    pub fetch-inside : there base sp a n (u .now) ≡ true → go base staging (Fetch sp a n k) u ≡ go base staging (k (fetched base sp a n (u .now))) u
+    pub fetch-inside : there base sp a n (u .now) ≡ true → go base lent (Fetch sp a n k) u ≡ go base lent (k (fetched base sp a n (u .now))) u
     unfolding go
     fetch-inside h = rw (h, go)
 
-    pub fetch-outside : there base sp a n (u .now) ≡ false → go base staging (Fetch sp a n k) u ≡ no 9 u
+    pub fetch-outside : there base sp a n (u .now) ≡ false → go base lent (Fetch sp a n k) u ≡ no 9 u
     unfolding go
     fetch-outside h = rw (h, go)
 
   module _ (sp : Space) (a n v : ℕ) (k : Act A) (u : World) where
     pub store-made : there base sp a n (u .now) ≡ true → legal sp n ≡ true → 16 ≤ length (u .free)
-        → go base staging (Store sp a n v k) u ≡ go base staging k (recorded base sp a n v u)
+        → go base lent (Store sp a n v k) u ≡ go base lent k (recorded base sp a n v u)
     unfolding go
     store-made h l r = rw (h, l, le-leb 16 (length (u .free)) r, go)
 
-    pub store-outside : there base sp a n (u .now) ≡ false → go base staging (Store sp a n v k) u ≡ no 9 u
+    pub store-outside : there base sp a n (u .now) ≡ false → go base lent (Store sp a n v k) u ≡ no 9 u
     unfolding go
     store-outside h = rw (h, go)
 
     pub store-full : there base sp a n (u .now) ≡ true → legal sp n ≡ true → length (u .free) < 16
-        → go base staging (Store sp a n v k) u ≡ no 11 u
+        → go base lent (Store sp a n v k) u ≡ no 11 u
     unfolding go
     store-full h l r = rw (h, l, lt-leb 16 (length (u .free)) r, go)
 
   module _ (f : Field) (v : ℕ) (k : Act A) (u : World) where
-    pub go-put : go base staging (Put f v k) u ≡ go base staging k (putting f (v % 2 ^ bitsOf f) u)
+    pub go-put : go base lent (Put f v k) u ≡ go base lent k (putting f (v % 2 ^ bitsOf f) u)
     unfolding go
     go-put = refl
 
-    pub put-fits : v < 2 ^ bitsOf f → go base staging (Put f v k) u ≡ go base staging k (putting f v u)
-    put-fits h = go-put ∙ ap (λ (x : ℕ). go base staging k (putting f x u)) (mod-eq-of-lt h)
+    pub put-fits : v < 2 ^ bitsOf f → go base lent (Put f v k) u ≡ go base lent k (putting f v u)
+    put-fits h = go-put ∙ ap (λ (x : ℕ). go base lent k (putting f x u)) (mod-eq-of-lt h)
 
 -- ---- one step alone
 
-module _ (base staging : ℕ) (u : World) where
+module _ (base : ℕ) (lent : Lent) (u : World) where
   module _ (sp : Space) (a n v : ℕ) where
     pub store-does : there base sp a n (u .now) ≡ true → legal sp n ≡ true → 16 ≤ length (u .free)
-        → go base staging (store sp a n v) u ≡ ok tt (recorded base sp a n v u)
+        → go base lent (store sp a n v) u ≡ ok tt (recorded base sp a n v u)
     unfolding go store
-    store-does h l r = store-made base staging sp a n v nothing u h l r
+    store-does h l r = store-made base lent sp a n v nothing u h l r
 
-    pub store-refused : there base sp a n (u .now) ≡ false → go base staging (store sp a n v) u ≡ no 9 u
+    pub store-refused : there base sp a n (u .now) ≡ false → go base lent (store sp a n v) u ≡ no 9 u
     unfolding store
-    store-refused h = store-outside base staging sp a n v nothing u h
+    store-refused h = store-outside base lent sp a n v nothing u h
 
-    pub store-no-room : there base sp a n (u .now) ≡ true → legal sp n ≡ true → length (u .free) < 16 → go base staging (store sp a n v) u ≡ no 11 u
+    pub store-no-room : there base sp a n (u .now) ≡ true → legal sp n ≡ true → length (u .free) < 16 → go base lent (store sp a n v) u ≡ no 11 u
     unfolding store
-    store-no-room h l r = store-full base staging sp a n v nothing u h l r
+    store-no-room h l r = store-full base lent sp a n v nothing u h l r
 
-  pub ask-does : (f : Field) → go base staging (ask f) u ≡ ok (holds f (u .now .dev)) u
+  pub ask-does : (f : Field) → go base lent (ask f) u ≡ ok (holds f (u .now .dev)) u
   unfolding go ask
   ask-does f = refl
 
   module _ (f : Field) where
-    pub put-does : (v : ℕ) → v < 2 ^ bitsOf f → go base staging (put f v) u ≡ ok tt (putting f v u)
+    pub put-does : (v : ℕ) → v < 2 ^ bitsOf f → go base lent (put f v) u ≡ ok tt (putting f v u)
     unfolding go put
-    put-does v h = put-fits base staging f v nothing u h
+    put-does v h = put-fits base lent f v nothing u h
 
-    pub change-does : (g : ℕ → ℕ) → g (holds f (u .now .dev)) < 2 ^ bitsOf f → go base staging (change f g) u ≡ ok tt (putting f (g (holds f (u .now .dev))) u)
+    pub change-does : (g : ℕ → ℕ) → g (holds f (u .now .dev)) < 2 ^ bitsOf f → go base lent (change f g) u ≡ ok tt (putting f (g (holds f (u .now .dev))) u)
     unfolding go change
-    change-does g h = put-fits base staging f (g (holds f (u .now .dev))) nothing u h
+    change-does g h = put-fits base lent f (g (holds f (u .now .dev))) nothing u h
 
 -- ---- the end of an act that began at u
 

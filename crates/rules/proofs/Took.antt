@@ -14,7 +14,7 @@ use Rattle.rules.specs.Act.{Act, Space, window, table, Field}
 use Rattle.rules.specs.Bytes.{Bytes, number}
 use Rattle.rules.specs.With.{withTable}
 use Rattle.rules.specs.Fields.{bitsOf, fieldAt, fitsSome, fieldsOf}
-use Rattle.rules.specs.Carry.{Machine, World, Rec, stoodAt, stoodIn, Out, ok, no, bytesOf, withDevice, indexOf, there, legal, fetched, lineOf, linesOf, endLine, recorded, go, After, made, unmade, changed, lastLines, written, cleared, leave, perform, undo}
+use Rattle.rules.specs.Carry.{Machine, World, Rec, stoodAt, stoodIn, Out, ok, no, bytesOf, withDevice, indexOf, there, legal, fetched, lineOf, linesOf, endLine, recorded, go, After, made, unmade, changed, lastLines, written, cleared, leave, perform, undo, Lent}
 use Rattle.rules.specs.TakeBack.{soundStore, decodeAll}
 use Rattle.rules.proofs.BoolLaws.{and-both}
 use Rattle.rules.proofs.BytesLaws.{part-lt}
@@ -149,16 +149,16 @@ module _ (base : ℕ) (u : World) (entry : Good base (u .now)) where
       }
 
   -- where its steps end, with an answer or refused
-  pub go-underway : (staging : ℕ) {A : Type 0} (m : Act A) → AtEnd (Underway base u) (go base staging m u)
-  go-underway staging m = go-keeps base staging (Underway base u) on-store on-put m u begun
+  pub go-underway : (lent : Lent) {A : Type 0} (m : Act A) → AtEnd (Underway base u) (go base lent m u)
+  go-underway lent m = go-keeps base lent (Underway base u) on-store on-put m u begun
 
   -- roll back: at a refusal the used journal is that of the entry and the records made since; they are what is read from its bytes; and
   -- undoing them, as a take-back does, on window and table as they are and the fields of the entry gives back what was there
-  pub rolled-back : (staging : ℕ) {A : Type 0} (m : Act A) (n : ℕ) (v : World) → go base staging m u ≡ no n v
+  pub rolled-back : (lent : Lent) {A : Type 0} (m : Act A) (n : ℕ) (v : World) → go base lent m u ≡ no n v
       → (log : List Rec) × (v .used ≡ u .used ++ linesOf log) × (decodeAll (length log) (drop (length (u .used)) (v .used)) ≡ log)
       × (undo base log (asIn (u .now .dev) (v .now)) ≡ u .now)
-  rolled-back staging m n v e =
-      let h : Underway base u v = subst (AtEnd (Underway base u)) e (go-underway staging m) in
+  rolled-back lent m n v e =
+      let h : Underway base u v = subst (AtEnd (Underway base u)) e (go-underway lent m) in
       let bytes : drop (length (u .used)) (v .used) ≡ linesOf (h .log) ++ [] =
       ap (drop (length (u .used))) (h .used-is) ∙ drop-append-seam (u .used) (linesOf (h .log)) ∙ sym (append-nil (linesOf (h .log))) in
       (h .log, h .used-is, ap (decodeAll (length (h .log))) bytes ∙ decode-lines base (u .now) entry (h .log) [] (h .all-sound), h .undone)
@@ -216,9 +216,9 @@ module _ (base : ℕ) (u : World) (entry : Good base (u .now)) (small : total u 
       )
 
   -- every act: one group more is used, all its records are sound, and undoing them gives back the machine at entry
-  pub accepted : (staging : ℕ) {A : Type 0} (m : Act A) (a : A) (v : World) → perform base staging m u ≡ made a v → Took base u v
+  pub accepted : (lent : Lent) {A : Type 0} (m : Act A) (a : A) (v : World) → perform base lent m u ≡ made a v → Took base u v
   unfolding perform leave
-  accepted staging {A} m a v e = subst (WhereMade (Took base u)) e (left (go base staging m u) (go-underway base u entry staging m))
+  accepted lent {A} m a v e = subst (WhereMade (Took base u)) e (left (go base lent m u) (go-underway base u entry lent m))
     where
       left : (o : Out A) → AtEnd (Underway base u) o → WhereMade (Took base u) (leave u o)
       left (no n w) h = tt
@@ -236,9 +236,9 @@ WhereUnmade P (made a v) = Unit {0}
 WhereUnmade P (unmade n v) = P v
 
 -- window, device and used journal are those of the entry, and the room is cleared
-pub refused : (base staging : ℕ) {A : Type 0} (m : Act A) (u : World) (n : ℕ) (v : World) → perform base staging m u ≡ unmade n v → v ≡ cleared u
+pub refused : (base : ℕ) (lent : Lent) {A : Type 0} (m : Act A) (u : World) (n : ℕ) (v : World) → perform base lent m u ≡ unmade n v → v ≡ cleared u
 unfolding perform leave
-refused base staging {A} m u n v e = subst (WhereUnmade (λ w. w ≡ cleared u)) e (left (go base staging m u))
+refused base lent {A} m u n v e = subst (WhereUnmade (λ w. w ≡ cleared u)) e (left (go base lent m u))
   where
     left : (o : Out A) → WhereUnmade (λ w. w ≡ cleared u) (leave u o)
     left (no k w) = refl

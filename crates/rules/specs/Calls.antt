@@ -8,7 +8,7 @@ use lib.Bits.{bitAnd, bitOr}
 use lib.Dec.{eqb, ltb}
 use lib.ListN.{length, replicate, take, drop}
 use Rattle.rules.specs.Act.{Act, done, nothing, ask, put, change, _>>=_, _>>_, ERQ, KICK, STANDING, LINES, PENDING}
-use Rattle.rules.specs.Carry.{World, After, made, unmade, perform}
+use Rattle.rules.specs.Carry.{World, After, made, unmade, perform, lending}
 use Rattle.rules.specs.TakeBack.{takeBack}
 use Rattle.rules.specs.Run.{requesting, runAll, serviceAll}
 use Rattle.rules.specs.Lines.{ownedFrom, relevel, acknowledge}
@@ -239,7 +239,7 @@ toldAfter staging used (unmade n u) = told n Heard.Nothing (u .now .dev) (u .now
 unfoldable pub after : Asked → ℕ → Device → List ℕ → List ℕ → List ℕ → ℕ → Told
 after c base d window staging journal used =
     elim (wrong base (length window) (length journal) used c) [
-      | zero ↦ toldAfter (stagingAfter c staging) used (perform base (length staging) (actOf c) (worldOf d window journal used))
+      | zero ↦ toldAfter (stagingAfter c staging) used (perform base (lending (length staging)) (actOf c) (worldOf d window journal used))
       | suc n ↦ told (suc n) Heard.Nothing d window staging journal used
     ]
 

@@ -88,6 +88,13 @@ endLine n = line 3 0 0 n
 
 -- ---- steps
 
+-- what is lent to a call and never changed, besides the window's base: how many bytes of staging there are
+pub record Lent : Type 0 where
+  pub staging : ℕ
+
+abbrev pub lending : ℕ → Lent
+lending n = record { staging = n }
+
 -- how an act's steps end: with its answer, or refused with a number; and what is there then
 pub data Out (A : Type 0) : Type 0 where
   ok : A → World → Out A
@@ -102,12 +109,12 @@ module _ (base : ℕ) where
     free = drop 16 (u .free);
   }
 
-module _ (base staging : ℕ) where
+module _ (base : ℕ) (lent : Lent) where
   -- 9 before 11 at one store
   unfoldable pub go : {A : Type 0} → Act A → World → Out A
   go (Done a) u = ok a u
   go Endless u = no 11 u
-  go (Stage n k) u = elim (leb n staging) [ true ↦ go k u | false ↦ no 10 u ]
+  go (Stage n k) u = elim (leb n (lent .staging)) [ true ↦ go k u | false ↦ no 10 u ]
   go (Fetch sp a n k) u = elim (there base sp a n (u .now)) [ true ↦ go (k (fetched base sp a n (u .now))) u | false ↦ no 9 u ]
   go (Store sp a n v k) u =
       elim (there base sp a n (u .now) && legal sp n) [
@@ -151,9 +158,9 @@ leave u (ok a v) =
     elim (leb (length (lastLines u v)) (length (v .free))) [ true ↦ made a (written (lastLines u v) v) | false ↦ unmade 11 (cleared u) ]
 leave u (no n v) = unmade n (cleared u)
 
-module _ (base staging : ℕ) where
+module _ (base : ℕ) (lent : Lent) where
   unfoldable pub perform : {A : Type 0} → Act A → World → After A World
-  perform m u = leave u (go base staging m u)
+  perform m u = leave u (go base lent m u)
 
 -- ---- undoing
 

@@ -11,7 +11,7 @@ use lib.Seq.{take-at, length-take-le}
 use Rattle.rules.specs.Act.{Act, window, _>>=_, done, fetch}
 use Rattle.rules.specs.Bytes.{bytes, number, part, splice, Bytes}
 use Rattle.rules.specs.Calls.{worldOf}
-use Rattle.rules.specs.Carry.{World, Out, no, go, bytesOf, fetched}
+use Rattle.rules.specs.Carry.{World, Out, no, go, bytesOf, fetched, Lent}
 use Rattle.rules.specs.Minor.{readUnit, readUnits, readSizes}
 use Rattle.rules.specs.Words.{wrap32, unitOf, moduloAdd}
 use Rattle.rules.specs.State.{Device}
@@ -36,40 +36,40 @@ staged l n k w i fits each got put =
     ∙ take-at (take n l ++ part w i k) _ (n + k) (omega (arith, length-append (take n l) (part w i k), length-take-le n l (omega arith)))
 
 -- by where it is read
-module _ (base staging : ℕ) (d : Device) (w j : List ℕ) (e u a : ℕ) (got : List ℕ) {p : Place} (asked : p ≡ placeOf base w a u) where
-  pub read-outside : p ≡ Place.Outside → (l : List ℕ) → gotten false l (worldOf d w j e) ≡ go base staging (readUnit u a got) (worldOf d w j e)
+module _ (base : ℕ) (lent : Lent) (d : Device) (w j : List ℕ) (e u a : ℕ) (got : List ℕ) {p : Place} (asked : p ≡ placeOf base w a u) where
+  pub read-outside : p ≡ Place.Outside → (l : List ℕ) → gotten false l (worldOf d w j e) ≡ go base lent (readUnit u a got) (worldOf d w j e)
   unfolding gotten readUnit fetch _>>=_
-  read-outside h l = sym (fetch-outside base staging window a u (λ v. done (got ++ v)) (worldOf d w j e) (not-there base w a u asked h d))
+  read-outside h l = sym (fetch-outside base lent window a u (λ v. done (got ++ v)) (worldOf d w j e) (not-there base w a u asked h d))
 
-  pub read-inside : {i : ℕ} {l : List ℕ} → p ≡ Place.At i → l ≡ got ++ part w i u → gotten true l (worldOf d w j e) ≡ go base staging (readUnit u a got) (worldOf d w j e)
+  pub read-inside : {i : ℕ} {l : List ℕ} → p ≡ Place.At i → l ≡ got ++ part w i u → gotten true l (worldOf d w j e) ≡ go base lent (readUnit u a got) (worldOf d w j e)
   unfolding gotten readUnit fetch _>>=_ fetched bytesOf go
   read-inside h more =
       rw (more, at-index base w a u asked h)
-      (sym (fetch-inside base staging window a u (λ v. done (got ++ v)) (worldOf d w j e) (at-there base w a u asked h d)))
+      (sym (fetch-inside base lent window a u (λ v. done (got ++ v)) (worldOf d w j e) (at-there base w a u asked h d)))
 
 -- ---- a turn. Reading `left` from here is reading `whole` from the start, with this window, whatever else is there.
 
 abbrev pub Rests : {A : Type 0} → ℕ → List ℕ → Act A → Act A → Type 0
-Rests base w left whole = (staging : ℕ) (d : Device) (j : List ℕ) (e : ℕ) → go base staging left (worldOf d w j e) ≡ go base staging whole (worldOf d w j e)
+Rests base w left whole = (lent : Lent) (d : Device) (j : List ℕ) (e : ℕ) → go base lent left (worldOf d w j e) ≡ go base lent whole (worldOf d w j e)
 
 module _ {A : Type 0} (base : ℕ) (w : List ℕ) (whole : Act A) (x : Act (List ℕ)) (y : List ℕ → Act A) {left : Act A} (turn : x >>= y ≡ left)
     (rest : Rests base w left whole) (l : List ℕ)
   where
-    read : (r q : Bool) → r ≡ q → Reads x base w r l → (staging : ℕ) (d : Device) (j : List ℕ) (e : ℕ)
-        → andThen (gotten q l (worldOf d w j e)) (λ z. go base staging (y z)) ≡ go base staging whole (worldOf d w j e)
-    read r q h did staging d j e =
-        ap (λ (o : Out (List ℕ)). andThen o (λ z. go base staging (y z))) (sym (ap (λ (b : Bool). gotten b l (worldOf d w j e)) h) ∙ did staging d j e)
-        ∙ sym (go-bind base staging x y (worldOf d w j e))
-        ∙ ap (λ (m : Act A). go base staging m (worldOf d w j e)) turn
-        ∙ rest staging d j e
+    read : (r q : Bool) → r ≡ q → Reads x base w r l → (lent : Lent) (d : Device) (j : List ℕ) (e : ℕ)
+        → andThen (gotten q l (worldOf d w j e)) (λ z. go base lent (y z)) ≡ go base lent whole (worldOf d w j e)
+    read r q h did lent d j e =
+        ap (λ (o : Out (List ℕ)). andThen o (λ z. go base lent (y z))) (sym (ap (λ (b : Bool). gotten b l (worldOf d w j e)) h) ∙ did lent d j e)
+        ∙ sym (go-bind base lent x y (worldOf d w j e))
+        ∙ ap (λ (m : Act A). go base lent m (worldOf d w j e)) turn
+        ∙ rest lent d j e
 
     pub read-on : {r : Bool} → r ≡ true → Reads x base w r l → Rests base w (y l) whole
     unfolding gotten andThen
-    read-on {r} h did staging d j e = read r true h did staging d j e
+    read-on {r} h did lent d j e = read r true h did lent d j e
 
-    pub read-off : {r : Bool} → r ≡ false → Reads x base w r l → (staging : ℕ) (d : Device) (j : List ℕ) (e : ℕ) → no 9 (worldOf d w j e) ≡ go base staging whole (worldOf d w j e)
+    pub read-off : {r : Bool} → r ≡ false → Reads x base w r l → (lent : Lent) (d : Device) (j : List ℕ) (e : ℕ) → no 9 (worldOf d w j e) ≡ go base lent whole (worldOf d w j e)
     unfolding gotten andThen
-    read-off {r} h did staging d j e = read r false h did staging d j e
+    read-off {r} h did lent d j e = read r false h did lent d j e
 
 pub none-read : (l : List ℕ) (u : World) {o : Out (List ℕ)} → no 9 u ≡ o → gotten false l u ≡ o
 unfolding gotten
@@ -84,12 +84,12 @@ reads-on count k u s got h p =
     let e : count - k ≡ suc (count - (k + 1)) = omega arith in
     rw (e, p, add-one k)
 
-pub reads-end : (base staging : ℕ) (d : Device) (w j : List ℕ) (e count k u s : ℕ) (got : List ℕ) {o : Out (List ℕ)} {l : List ℕ} → count ≤ k
-    → go base staging (readUnits (count - k) k u s got) (worldOf d w j e) ≡ o → l ≡ got → gotten true l (worldOf d w j e) ≡ o
+pub reads-end : (base : ℕ) (lent : Lent) (d : Device) (w j : List ℕ) (e count k u s : ℕ) (got : List ℕ) {o : Out (List ℕ)} {l : List ℕ} → count ≤ k
+    → go base lent (readUnits (count - k) k u s got) (worldOf d w j e) ≡ o → l ≡ got → gotten true l (worldOf d w j e) ≡ o
 unfolding readUnits gotten go
-reads-end base staging d w j e count k u s got h rest same =
+reads-end base lent d w j e count k u s got h rest same =
     let z : 0 ≡ count - k = omega arith in
-    rw same (ap (λ (n : ℕ). go base staging (readUnits n k u s got) (worldOf d w j e)) z ∙ rest)
+    rw same (ap (λ (n : ℕ). go base lent (readUnits n k u s got) (worldOf d w j e)) z ∙ rest)
 
 -- one unit is a whole size of its own
 one-read : (u s : ℕ) (got : List ℕ) → 0 < u → s < 2 ^ 32 → readUnits (u / u) 0 u s got ≡ readUnit u s got
@@ -118,8 +118,8 @@ module _ (left soff smod size s : ℕ) (got : List ℕ) (more : left ≡ 0 → �
   unfolding unitOf
   read-single-on h k l = ap (λ (m : Act (List ℕ)). m >>= after) (sym (one-read size s got h l)) ∙ sizes-on size (sym (min-eq-left k))
 
-pub read-sizes-end : (base staging : ℕ) (d : Device) (w j : List ℕ) (e left soff smod size s : ℕ) (got : List ℕ) {o : Out (ℕ × List ℕ)} {l : List ℕ} → left ≡ 0
-    → go base staging (readSizes left soff smod size s got) (worldOf d w j e) ≡ o → l ≡ got → readTo (Read.At s) l (worldOf d w j e) ≡ o
+pub read-sizes-end : (base : ℕ) (lent : Lent) (d : Device) (w j : List ℕ) (e left soff smod size s : ℕ) (got : List ℕ) {o : Out (ℕ × List ℕ)} {l : List ℕ} → left ≡ 0
+    → go base lent (readSizes left soff smod size s got) (worldOf d w j e) ≡ o → l ≡ got → readTo (Read.At s) l (worldOf d w j e) ≡ o
 unfolding readSizes readTo go
-read-sizes-end base staging d w j e left soff smod size s got z rest same =
-    rw same (ap (λ (n : ℕ). go base staging (readSizes n soff smod size s got) (worldOf d w j e)) (sym z) ∙ rest)
+read-sizes-end base lent d w j e left soff smod size s got z rest same =
+    rw same (ap (λ (n : ℕ). go base lent (readSizes n soff smod size s got) (worldOf d w j e)) (sym z) ∙ rest)

@@ -9,7 +9,7 @@ use lib.ListN.{length, take}
 use lib.Seq.{length-take-le}
 use Rattle.rules.specs.Act.{Act, _>>=_, _>>_, done, stage}
 use Rattle.rules.specs.Calls.{worldOf}
-use Rattle.rules.specs.Carry.{World, Out, go}
+use Rattle.rules.specs.Carry.{World, Out, go, Lent}
 use Rattle.rules.specs.Minor.{readSizes, writeSizes, moveUnequal}
 use Rattle.rules.specs.State.{Device}
 use Rattle.rules.specs.declared.Refusal.{Refusal}
@@ -49,7 +49,7 @@ whole-units n h n₁ n₂ = by (h .which)
 
 -- ---- the whole
 
-module _ (base staging : ℕ) (dev : Device) (w j : List ℕ) (e reads soff smod doff dmod ssize dsize s d : ℕ) where
+module _ (base : ℕ) (lent : Lent) (dev : Device) (w j : List ℕ) (e reads soff smod doff dmod ssize dsize s d : ℕ) where
   abbrev start : World
   start = worldOf dev w j e
 
@@ -65,38 +65,38 @@ module _ (base staging : ℕ) (dev : Device) (w j : List ℕ) (e reads soff smod
   abbrev rest : ℕ × List ℕ → Act (ℕ × ℕ)
   rest p = writing (p .1) >>= (λ d′. done (p .0, d′))
 
-  pub unequal-short : staging < reads * ssize → moved (Moved.Not Refusal.Staging e) dev w j ≡ go base staging tree start
+  pub unequal-short : lent .staging < reads * ssize → moved (Moved.Not Refusal.Staging e) dev w j ≡ go base lent tree start
   unfolding moved moveUnequal stage _>>_ _>>=_
-  unequal-short h = sym (stage-short base staging (reads * ssize) (reading >>= rest) start h)
+  unequal-short h = sym (stage-short base lent (reads * ssize) (reading >>= rest) start h)
 
-  module _ (fits : reads * ssize ≤ staging) where
-    enough : go base staging (reading >>= rest) start ≡ go base staging tree start
+  module _ (fits : reads * ssize ≤ lent .staging) where
+    enough : go base lent (reading >>= rest) start ≡ go base lent tree start
     unfolding moveUnequal stage _>>_ _>>=_
-    enough = sym (stage-enough base staging (reads * ssize) (reading >>= rest) start fits)
+    enough = sym (stage-enough base lent (reads * ssize) (reading >>= rest) start fits)
 
-    module _ (r : Read) (l : List ℕ) (did : readTo r l start ≡ go base staging reading start) where
-      then-rest : (q : Read) → r ≡ q → andThen (readTo q l start) (λ p. go base staging (rest p)) ≡ go base staging tree start
+    module _ (r : Read) (l : List ℕ) (did : readTo r l start ≡ go base lent reading start) where
+      then-rest : (q : Read) → r ≡ q → andThen (readTo q l start) (λ p. go base lent (rest p)) ≡ go base lent tree start
       then-rest q h =
-          ap (λ (o : Out (ℕ × List ℕ)). andThen o (λ p. go base staging (rest p))) (sym (ap (λ (x : Read). readTo x l start) h) ∙ did)
-          ∙ sym (go-bind base staging reading rest start)
+          ap (λ (o : Out (ℕ × List ℕ)). andThen o (λ p. go base lent (rest p))) (sym (ap (λ (x : Read). readTo x l start) h) ∙ did)
+          ∙ sym (go-bind base lent reading rest start)
           ∙ enough
 
-      pub unequal-unread : r ≡ Read.Outside → moved (Moved.Not Refusal.Outside e) dev w j ≡ go base staging tree start
+      pub unequal-unread : r ≡ Read.Outside → moved (Moved.Not Refusal.Outside e) dev w j ≡ go base lent tree start
       unfolding moved readTo andThen
       unequal-unread h = then-rest Read.Outside h
 
-      module _ {s′ : ℕ} (at : r ≡ Read.At s′) (q : Wrote) (w′ j′ : List ℕ) (put : wrote q dev w′ j′ ≡ go base staging (writing l) start) where
-        ended : (x : Wrote) → q ≡ x → andThen (wrote x dev w′ j′) (λ d′. go base staging (done (s′, d′))) ≡ go base staging tree start
+      module _ {s′ : ℕ} (at : r ≡ Read.At s′) (q : Wrote) (w′ j′ : List ℕ) (put : wrote q dev w′ j′ ≡ go base lent (writing l) start) where
+        ended : (x : Wrote) → q ≡ x → andThen (wrote x dev w′ j′) (λ d′. go base lent (done (s′, d′))) ≡ go base lent tree start
         unfolding readTo andThen
         ended x h =
-            ap (λ (o : Out ℕ). andThen o (λ d′. go base staging (done (s′, d′)))) (sym (ap (λ (y : Wrote). wrote y dev w′ j′) h) ∙ put)
-            ∙ sym (go-bind base staging (writing l) (λ d′. done (s′, d′)) start)
+            ap (λ (o : Out ℕ). andThen o (λ d′. go base lent (done (s′, d′)))) (sym (ap (λ (y : Wrote). wrote y dev w′ j′) h) ∙ put)
+            ∙ sym (go-bind base lent (writing l) (λ d′. done (s′, d′)) start)
             ∙ then-rest (Read.At s′) at
 
-        pub unequal-to : {d′ e′ : ℕ} → q ≡ Wrote.To d′ e′ → moved (Moved.To s′ d′ e′) dev w′ j′ ≡ go base staging tree start
+        pub unequal-to : {d′ e′ : ℕ} → q ≡ Wrote.To d′ e′ → moved (Moved.To s′ d′ e′) dev w′ j′ ≡ go base lent tree start
         unfolding moved wrote andThen go
         unequal-to {d′} {e′} h = ended (Wrote.To d′ e′) h
 
-        pub unequal-not : {n : Refusal} {e′ : ℕ} → q ≡ Wrote.Not n e′ → moved (Moved.Not n e′) dev w′ j′ ≡ go base staging tree start
+        pub unequal-not : {n : Refusal} {e′ : ℕ} → q ≡ Wrote.Not n e′ → moved (Moved.Not n e′) dev w′ j′ ≡ go base lent tree start
         unfolding moved wrote andThen
         unequal-not {n} {e′} h = ended (Wrote.Not n e′) h

@@ -8,7 +8,7 @@ use native.Mathlib.Omega.{arith}
 use Rattle.rules.specs.Act.{Act, window, _>>=_, _>>_, store}
 use Rattle.rules.specs.Bytes.{number, part}
 use Rattle.rules.specs.Calls.{worldOf}
-use Rattle.rules.specs.Carry.{Out, go}
+use Rattle.rules.specs.Carry.{Out, go, Lent}
 use Rattle.rules.specs.Minor.{writeUnits, writeSizes}
 use Rattle.rules.specs.Words.{wrap32, unitOf, moduloAdd}
 use Rattle.rules.specs.State.{Device}
@@ -26,12 +26,12 @@ writes-on count k u d got o h p q =
     let e : count - k ≡ suc (count - (k + 1)) = omega arith in
     rw (e, p, q, ap (λ (i : ℕ). writeUnits (count - (k + 1)) i u d got o) (add-one k))
 
-pub writes-end : (base staging : ℕ) (dev : Device) (count k u d : ℕ) (got : List ℕ) (o e : ℕ) (w j : List ℕ) {z : Out (Unit {0})} → count ≤ k
-    → go base staging (writeUnits (count - k) k u d got o) (worldOf dev w j e) ≡ z → walked (Walk.On e) dev w j ≡ z
+pub writes-end : (base : ℕ) (lent : Lent) (dev : Device) (count k u d : ℕ) (got : List ℕ) (o e : ℕ) (w j : List ℕ) {z : Out (Unit {0})} → count ≤ k
+    → go base lent (writeUnits (count - k) k u d got o) (worldOf dev w j e) ≡ z → walked (Walk.On e) dev w j ≡ z
 unfolding writeUnits walked go
-writes-end base staging dev count k u d got o e w j h rest =
+writes-end base lent dev count k u d got o e w j h rest =
     let z : 0 ≡ count - k = omega arith in
-    ap (λ (n : ℕ). go base staging (writeUnits n k u d got o) (worldOf dev w j e)) z ∙ rest
+    ap (λ (n : ℕ). go base lent (writeUnits n k u d got o) (worldOf dev w j e)) z ∙ rest
 
 -- one unit is a whole size of its own
 one-write : (u d : ℕ) (got : List ℕ) (o : ℕ) → 0 < u → d < 2 ^ 32 → writeUnits (u / u) 0 u d got o ≡ store window d u (number (part got o u))
@@ -61,8 +61,8 @@ module _ (left doff dmod size d : ℕ) (got : List ℕ) (o : ℕ) (more : left �
   write-single-on h k l q =
       ap (λ (m : Act (Unit {0})). m >> after) (ap (store window d size) q ∙ sym (one-write size d got o h l)) ∙ sizes-on size (sym (min-eq-left k))
 
-pub write-sizes-end : (base staging : ℕ) (dev : Device) (left doff dmod size d : ℕ) (got : List ℕ) (o e : ℕ) (w j : List ℕ) {z : Out ℕ} → left ≡ 0
-    → go base staging (writeSizes left doff dmod size d got o) (worldOf dev w j e) ≡ z → wrote (Wrote.To d e) dev w j ≡ z
+pub write-sizes-end : (base : ℕ) (lent : Lent) (dev : Device) (left doff dmod size d : ℕ) (got : List ℕ) (o e : ℕ) (w j : List ℕ) {z : Out ℕ} → left ≡ 0
+    → go base lent (writeSizes left doff dmod size d got o) (worldOf dev w j e) ≡ z → wrote (Wrote.To d e) dev w j ≡ z
 unfolding writeSizes wrote go
-write-sizes-end base staging dev left doff dmod size d got o e w j h rest =
-    ap (λ (n : ℕ). go base staging (writeSizes n doff dmod size d got o) (worldOf dev w j e)) (sym h) ∙ rest
+write-sizes-end base lent dev left doff dmod size d got o e w j h rest =
+    ap (λ (n : ℕ). go base lent (writeSizes n doff dmod size d got o) (worldOf dev w j e)) (sym h) ∙ rest

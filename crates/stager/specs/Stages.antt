@@ -6,7 +6,7 @@ use mathlib.Core.Path.{_≡_}
 use Prim.Native.Nat.{ℕ}
 use Rattle.rules.specs.Act.{Act}
 use Rattle.rules.specs.Calls.{worldOf, refusalNumber}
-use Rattle.rules.specs.Carry.{World, Out, ok, no, go}
+use Rattle.rules.specs.Carry.{World, Out, ok, no, go, Lent}
 use Rattle.rules.specs.State.{Device}
 use Rattle.rules.specs.declared.Refusal.the-variants as Refusal
 use Rattle.mover.specs.Moves.{moved}
@@ -27,10 +27,10 @@ readTo (At s) l u = ok (s, l) u
 readTo Outside l u = no (refusalNumber Refusal.Outside) u
 
 abbrev pub Reads : Act (List ℕ) → ℕ → List ℕ → Bool → List ℕ → Type 0
-Reads act base w r l = (staging : ℕ) (d : Device) (j : List ℕ) (e : ℕ) → gotten r l (worldOf d w j e) ≡ go base staging act (worldOf d w j e)
+Reads act base w r l = (lent : Lent) (d : Device) (j : List ℕ) (e : ℕ) → gotten r l (worldOf d w j e) ≡ go base lent act (worldOf d w j e)
 
 abbrev pub ReadsTo : Act (ℕ × List ℕ) → ℕ → List ℕ → Read → List ℕ → Type 0
-ReadsTo act base w r l = (staging : ℕ) (d : Device) (j : List ℕ) (e : ℕ) → readTo r l (worldOf d w j e) ≡ go base staging act (worldOf d w j e)
+ReadsTo act base w r l = (lent : Lent) (d : Device) (j : List ℕ) (e : ℕ) → readTo r l (worldOf d w j e) ≡ go base lent act (worldOf d w j e)
 
 -- ---- writes, from the journal's end `at` on
 
@@ -39,9 +39,9 @@ wrote (To t e) d w j = ok t (worldOf d w j e)
 wrote (Not r e) d w j = no (refusalNumber r) (worldOf d w j e)
 
 abbrev pub Writes : Act ℕ → ℕ → ℕ → Wrote → List ℕ → List ℕ → List ℕ → List ℕ → Type 0
-Writes act base at r w w′ j j′ = (staging : ℕ) (d : Device) → wrote r d w′ j′ ≡ go base staging act (worldOf d w j at)
+Writes act base at r w w′ j j′ = (lent : Lent) (d : Device) → wrote r d w′ j′ ≡ go base lent act (worldOf d w j at)
 
--- ---- a transfer with so many bytes of staging
+-- ---- a transfer, with what is lent
 
-abbrev pub Stages : Act (ℕ × ℕ) → ℕ → ℕ → ℕ → Moved → List ℕ → List ℕ → List ℕ → List ℕ → Type 0
-Stages act base staging at r w w′ j j′ = (d : Device) → moved r d w′ j′ ≡ go base staging act (worldOf d w j at)
+abbrev pub Stages : Act (ℕ × ℕ) → ℕ → Lent → ℕ → Moved → List ℕ → List ℕ → List ℕ → List ℕ → Type 0
+Stages act base lent at r w w′ j j′ = (d : Device) → moved r d w′ j′ ≡ go base lent act (worldOf d w j at)

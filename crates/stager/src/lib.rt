@@ -10,6 +10,7 @@ ghost use mathlib.Core.List.{[]};
 ghost use mathlib.Core.Path.{_≡_};
 ghost use Prim.Native.Nat.{_+_, _*_, _/_, _^_, _≤_, _<_};
 ghost use lib.ListN.{length, take};
+ghost use Rattle.rules.specs.Carry.{lending};
 ghost use Rattle.rules.specs.Minor.{readUnit, readUnits, readSizes, writeUnits, writeSizes, moveUnequal};
 ghost use Rattle.words.specs.Sizes.{Sized};
 ghost use Rattle.flow.specs.Worlds.{Walks};
@@ -441,7 +442,7 @@ pub fn move_unequal(
     at: usize,
 ) -> Moved
     requires { ⌜ (Sized ssize) × (Sized dsize) × (step .smod < 32) × (step .dmod < 32) × (reads * ssize < 2 ^ 32) ⌝ }
-    ensures { λ r. ⌜ Stages (moveUnequal reads (step .soff) (step .smod) (step .doff) (step .dmod) ssize dsize from to) base (length (now (staging .entry))) at r (now (window .entry)) (now (window .exit)) (now (journal .entry)) (now (journal .exit)) ⌝ }
+    ensures { λ r. ⌜ Stages (moveUnequal reads (step .soff) (step .smod) (step .doff) (step .dmod) ssize dsize from to) base (lending (length (now (staging .entry)))) at r (now (window .entry)) (now (window .exit)) (now (journal .entry)) (now (journal .exit)) ⌝ }
 {
     let total = reads * ssize;
     let all = total as usize;

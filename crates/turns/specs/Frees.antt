@@ -4,7 +4,7 @@ use mathlib.Core.List.{List}
 use mathlib.Core.Path.{_≡_}
 use Prim.Native.Nat.{ℕ}
 use lib.ListN.{getD, set}
-use Rattle.rules.specs.Carry.{ok, go}
+use Rattle.rules.specs.Carry.{ok, go, Lent}
 use Rattle.rules.specs.Run.{over, release}
 use Rattle.rules.specs.Words.{has, gain}
 use Rattle.rules.specs.With.{withBusy}
@@ -22,5 +22,5 @@ freeing now erq busy ch m = cond (over now (getD busy ch 0) && has erq ch) (gain
 -- all of them are freed, and those that have ERQ set are the answer
 abbrev pub Frees : ℕ → ℕ → ℕ → List ℕ → List ℕ → Type 0
 Frees now erq r b b′ =
-    (base staging : ℕ) (mem used free : List ℕ) (d : Device) → d .erq ≡ erq
-    → go base staging (release now 64 0 0) (beside mem used free (withBusy d b)) ≡ ok r (beside mem used free (withBusy d b′))
+    (base : ℕ) (lent : Lent) (mem used free : List ℕ) (d : Device) → d .erq ≡ erq
+    → go base lent (release now 64 0 0) (beside mem used free (withBusy d b)) ≡ ok r (beside mem used free (withBusy d b′))

@@ -5,7 +5,7 @@ use mathlib.Core.Path.{_≡_}
 use Prim.Native.Nat.{ℕ}
 use Rattle.rules.specs.Act.{Act}
 use Rattle.rules.specs.Calls.{refusalNumber}
-use Rattle.rules.specs.Carry.{World, Out, ok, no, go}
+use Rattle.rules.specs.Carry.{World, Out, ok, no, go, Lent}
 use Rattle.rules.specs.With.{withPending, withBusy, withDeferred, withDeadline}
 use Rattle.rules.specs.State.{Device}
 use Rattle.flow.specs.Worlds.{world}
@@ -33,6 +33,6 @@ atStep t (Step.Going c) = On (record { flow = c; deferred = t .deferred; deadlin
 atStep t (Step.Refused r c) = Off r (record { flow = c; deferred = t .deferred; deadline = t .deadline })
 
 -- a turn, or a part of one
-abbrev pub Turns : Act (Unit {0}) → ℕ → ℕ → ℕ → Course → Turned → List ℕ → List ℕ → List ℕ → List ℕ → List ℕ → List ℕ → List ℕ → List ℕ → List ℕ → List ℕ → List ℕ → List ℕ → Type 0
-Turns act base staging standing t r w w′ j j′ tb tb′ m m′ p p′ b b′ =
-    (d : Device) → d .standing ≡ standing → turned r d w′ j′ tb′ m′ p′ b′ ≡ go base staging act (turning d t w j tb m p b)
+abbrev pub Turns : Act (Unit {0}) → ℕ → Lent → ℕ → Course → Turned → List ℕ → List ℕ → List ℕ → List ℕ → List ℕ → List ℕ → List ℕ → List ℕ → List ℕ → List ℕ → List ℕ → List ℕ → Type 0
+Turns act base lent standing t r w w′ j j′ tb tb′ m m′ p p′ b b′ =
+    (d : Device) → d .standing ≡ standing → turned r d w′ j′ tb′ m′ p′ b′ ≡ go base lent act (turning d t w j tb m p b)

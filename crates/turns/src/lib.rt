@@ -8,6 +8,7 @@ ghost use mathlib.Core.Path.{_≡_};
 ghost use mathlib.Core.List.{List};
 ghost use Prim.Native.Nat.{ℕ, _^_, _≤_, _<_, min};
 ghost use lib.ListN.{length};
+ghost use Rattle.rules.specs.Carry.{lending};
 ghost use Rattle.rules.specs.Run.{serveLine, serve, turn, runAll, over};
 ghost use Rattle.rules.specs.Words.{lowest};
 ghost use Rattle.turns.specs.Frees.{freed, freeing, Frees};
@@ -69,7 +70,7 @@ pub fn serve_line(
     journal: &mut [u8],
 ) -> Turned
     requires { ⌜ (time ≤ 2 ^ 62) × (pace ≤ 1000000) ⌝ }
-    ensures { λ r. ⌜ ((p : List ℕ) (standing : ℕ) → Turns (serveLine time pace) base (length (now (staging .entry))) standing t r (now (window .entry)) (now (window .exit)) (now (journal .entry)) (now (journal .exit)) (now (table .entry)) (now (table .exit)) (now (majors .entry)) (now (majors .exit)) p p (now (busy .entry)) (now (busy .exit))) ⌝ }
+    ensures { λ r. ⌜ ((p : List ℕ) (standing : ℕ) → Turns (serveLine time pace) base (lending (length (now (staging .entry)))) standing t r (now (window .entry)) (now (window .exit)) (now (journal .entry)) (now (journal .exit)) (now (table .entry)) (now (table .exit)) (now (majors .entry)) (now (majors .exit)) p p (now (busy .entry)) (now (busy .exit))) ⌝ }
 {
     let c = t.flow;
     let l = channel::line_loop(c, window, base, table, majors, staging, journal);
@@ -111,7 +112,7 @@ pub fn serve(
     journal: &mut [u8],
 ) -> Turned
     requires { ⌜ (ch < 64) × (time ≤ 2 ^ 62) × (pace ≤ 1000000) ⌝ }
-    ensures { λ r. ⌜ Turns (serve time pace ch) base (length (now (staging .entry))) standing t r (now (window .entry)) (now (window .exit)) (now (journal .entry)) (now (journal .exit)) (now (table .entry)) (now (table .exit)) (now (majors .entry)) (now (majors .exit)) (now (pending .entry)) (now (pending .exit)) (now (busy .entry)) (now (busy .exit)) ⌝ }
+    ensures { λ r. ⌜ Turns (serve time pace ch) base (lending (length (now (staging .entry)))) standing t r (now (window .entry)) (now (window .exit)) (now (journal .entry)) (now (journal .exit)) (now (table .entry)) (now (table .exit)) (now (majors .entry)) (now (majors .exit)) (now (pending .entry)) (now (pending .exit)) (now (busy .entry)) (now (busy .exit)) ⌝ }
 {
     let c = t.flow;
     if words::has_bit(channel::csr_of(table, ch), 0) {
@@ -168,7 +169,7 @@ pub fn turn(
     journal: &mut [u8],
 ) -> Turned
     requires { ⌜ (ch < 64) × (time ≤ 2 ^ 62) × (pace ≤ 1000000) ⌝ }
-    ensures { λ r. ⌜ Turns (turn time pace ch) base (length (now (staging .entry))) standing t r (now (window .entry)) (now (window .exit)) (now (journal .entry)) (now (journal .exit)) (now (table .entry)) (now (table .exit)) (now (majors .entry)) (now (majors .exit)) (now (pending .entry)) (now (pending .exit)) (now (busy .entry)) (now (busy .exit)) ⌝ }
+    ensures { λ r. ⌜ Turns (turn time pace ch) base (lending (length (now (staging .entry)))) standing t r (now (window .entry)) (now (window .exit)) (now (journal .entry)) (now (journal .exit)) (now (table .entry)) (now (table .exit)) (now (majors .entry)) (now (majors .exit)) (now (pending .entry)) (now (pending .exit)) (now (busy .entry)) (now (busy .exit)) ⌝ }
 {
     let c = t.flow;
     let flow = Flow {
@@ -233,7 +234,7 @@ pub fn run_dma_inner(
     journal: &mut [u8],
 ) -> Turned
     requires { ⌜ (time ≤ 2 ^ 62) × (pace ≤ 1000000) ⌝ }
-    ensures { λ r. ⌜ Turns (runAll time pace) base (length (now (staging .entry))) standing t r (now (window .entry)) (now (window .exit)) (now (journal .entry)) (now (journal .exit)) (now (table .entry)) (now (table .exit)) (now (majors .entry)) (now (majors .exit)) (now (pending .entry)) (now (pending .exit)) (now (busy .entry)) (now (busy .exit)) ⌝ }
+    ensures { λ r. ⌜ Turns (runAll time pace) base (lending (length (now (staging .entry)))) standing t r (now (window .entry)) (now (window .exit)) (now (journal .entry)) (now (journal .exit)) (now (table .entry)) (now (table .exit)) (now (majors .entry)) (now (majors .exit)) (now (pending .entry)) (now (pending .exit)) (now (busy .entry)) (now (busy .exit)) ⌝ }
 {
     let mut s = t;
     let mut left: usize = 4096;

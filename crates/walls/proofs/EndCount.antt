@@ -4,7 +4,7 @@
 use mathlib.Core.Path.{_≡_, ap, _∙_}
 use lib.ListN.{length}
 use Rattle.rules.specs.Calls.{Asked, Told, actOf, wrong, stagingAfter, worldOf, toldAfter, after}
-use Rattle.rules.specs.Carry.{go, leave, perform}
+use Rattle.rules.specs.Carry.{go, leave, perform, lending}
 use Rattle.rules.proofs.Each.{Proper}
 use Rattle.rules.proofs.Ends.{Limits, Enough, actOr, call-ends}
 use Rattle.walls.specs.Wrong.{Given, acts}
@@ -13,11 +13,11 @@ use Rattle.walls.specs.Wrong.{Given, acts}
 unfoldable pub limited : Limits → Asked → Given → Told
 limited o c g =
     let u = worldOf (g .device) (g .window) (g .journal) (g .used) in
-    toldAfter (stagingAfter c (g .staging)) (g .used) (leave u (go (g .base) (length (g .staging)) (actOr o c) u))
+    toldAfter (stagingAfter c (g .staging)) (g .used) (leave u (go (g .base) (lending (length (g .staging))) (actOr o c) u))
 
 module _ (c : Asked) (g : Given) (right : wrong (g .base) (length (g .window)) (length (g .journal)) (g .used) c ≡ 0) where
   performed : acts c g
-      ≡ toldAfter (stagingAfter c (g .staging)) (g .used) (perform (g .base) (length (g .staging)) (actOf c) (worldOf (g .device) (g .window) (g .journal) (g .used)))
+      ≡ toldAfter (stagingAfter c (g .staging)) (g .used) (perform (g .base) (lending (length (g .staging))) (actOf c) (worldOf (g .device) (g .window) (g .journal) (g .used)))
   unfolding acts after
   performed = rw (right, after)
 
@@ -28,4 +28,4 @@ module _ (c : Asked) (g : Given) (right : wrong (g .base) (length (g .window)) (
       let u = worldOf (g .device) (g .window) (g .journal) (g .used) in
       meets ∙ performed
       ∙ ap (λ x. toldAfter (stagingAfter c (g .staging)) (g .used) (leave u x))
-      (call-ends (g .base) (length (g .staging)) o enough (g .device) (g .window) (g .journal) (g .used) c proper right)
+      (call-ends (g .base) (lending (length (g .staging))) o enough (g .device) (g .window) (g .journal) (g .used) c proper right)

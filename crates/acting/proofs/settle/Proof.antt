@@ -1,4 +1,5 @@
 -- `acting::settle` meets its contract. Assumes nothing.
+use Rattle.rules.specs.Carry.{lending}
 use Rattle.rules.specs.View.{view}
 use Rattle.rules.specs.declared.Heard.the-variants as Heard
 use Rattle.acting.proofs.Laws.{world-least, grown-on, grown-off, levelled-on, levelled-off, since, spared, settled, settled-not}
@@ -23,11 +24,11 @@ finish-requires : tie.Need-finish-requires
 finish-requires c κs =
     let p = c .before .before .before .before .before .before .before .before .pre in
     let a = c .before .before .before .before .before .before .before .before .args in
-    let l = grown-on 0 0 (p .act) (view (a .d)) (view (a .s .device)) [] (p .entry) (a .journal .now) (a .used) _ (p .goes 0 0 []) (c .before .before .before .before .w .given .1) (p .fits) in (
+    let l = grown-on 0 (lending 0) (p .act) (view (a .d)) (view (a .s .device)) [] (p .entry) (a .journal .now) (a .used) _ (p .goes 0 (lending 0) []) (c .before .before .before .before .w .given .1) (p .fits) in (
       omega (arith, l .later, l .long, c .least .ensures),
       omega (arith, c .least .ensures),
       spared _ _ _ (a .d) (c .before .before .update-irq .result) _ _ _ (c .before .before .before .before .before .before .before .before .good .0) (levelled-spares (p .act) (p .spares)) refl
-          (levelled-on 0 0 (p .act) (view (a .d)) (view (a .s .device)) [] (p .entry) (a .journal .now) (a .used) _ (p .goes 0 0 []) (c .before .before .before .before .w .given .1) (c .before .before .update-irq .ensures)),
+          (levelled-on 0 (lending 0) (p .act) (view (a .d)) (view (a .s .device)) [] (p .entry) (a .journal .now) (a .used) _ (p .goes 0 (lending 0) []) (c .before .before .before .before .w .given .1) (c .before .before .update-irq .ensures)),
     )
 
 enum-known-w-2 : tie.Need-enum-known-w-2
@@ -37,7 +38,7 @@ taken-back-requires : tie.Need-taken-back-requires
 taken-back-requires c κs =
     let p = c .before .before .before .before .before .before .pre in
     let a = c .before .before .before .before .before .before .args in
-    let l = grown-off 0 0 (p .act) (view (a .d)) (view (a .s .device)) [] (p .entry) (a .journal .now) (a .used) _ (p .goes 0 0 []) (c .before .before .w2 .given .1) (p .fits) in
+    let l = grown-off 0 (lending 0) (p .act) (view (a .d)) (view (a .s .device)) [] (p .entry) (a .journal .now) (a .used) _ (p .goes 0 (lending 0) []) (c .before .before .w2 .given .1) (p .fits) in
     omega (arith, l .long, p .fits)
 
 same-length : tie.Need-same-length

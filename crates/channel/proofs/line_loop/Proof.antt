@@ -1,12 +1,12 @@
 -- `channel::line_loop` meets its contract. Assumes nothing.
-use mathlib.Core.Path.{_≡_, refl, sym, _∙_}
+use mathlib.Core.Path.{_≡_, refl, sym, _∙_, ap}
 use Rattle.channel.proofs.Passing.{line-idle, line-off, line-done, line-over, line-again, line-out, broken-small}
 use Rattle.rules.specs.Run.{lineLoop, linePasses}
 use borrow.Author.Needs.{needs}
 use Prim.Native.Nat.{_≤_, _^_}
 use lib.ListN.{length}
 use Rattle.rules.specs.State.{Device}
-use Rattle.rules.specs.Carry.{go}
+use Rattle.rules.specs.Carry.{go, lending}
 use Rattle.flow.specs.Worlds.{world}
 use Rattle.channel.proofs.line_loop.Statement.{statement}
 use Rattle.channel.proofs.line_loop.Tie as tie
@@ -17,8 +17,8 @@ Inv-loop window₀ base table₀ majors₀ staging₀ journal₀ f₀ sum₀ lef
     × (length staging ≡ length staging₀)
     × (length journal ≡ length journal₀)
     × (sum ≤ 2 ^ 20)
-    × ((d : Device) → go base (length staging₀) (lineLoop left sum) (world d f window journal table majors)
-    ≡ go base (length staging₀) (lineLoop linePasses 0) (world d f₀ window₀ journal₀ table₀ majors₀))
+    × ((d : Device) → go base (lending (length staging₀)) (lineLoop left sum) (world d f window journal table majors)
+    ≡ go base (lending (length staging₀)) (lineLoop linePasses 0) (world d f₀ window₀ journal₀ table₀ majors₀))
 
 abbrev μ-loop : tie.MeasureT-loop
 μ-loop window₀ base table₀ majors₀ staging₀ journal₀ f₀ sum₀ left₀ window table majors staging journal f sum left =
@@ -58,7 +58,7 @@ returns c =
     let l = c .before .before .before .before .before .before .before .before .before .before .before .before .before .before .before .before .before .before .before .loop in
     record {
       small = search needs;
-      does = line-idle (a .base) _ _ (l .f) _ _ _ _ (l .sum) _ (l .inv .4) (c .before .before .before .before .before .before .before .before .before .before .before .before .before .before .before .before .before .before .loop-test .taken) _ (l .inv .1) _ _ _ _ _ (c .before .before .before .before .before .before .before .before .before .before .dma-minor .ensures) _ (c .before .before .before .before .before .before .before .before .before .before .before .before .before .before .before .before .nbytes-of .ensures .0) (c .before .before .before .before .before .before .before .before .before .before .before .before .before .before .before .before .nbytes-of .ensures .2) (c .before .before .csr-of .ensures .1) (c .enum-told .given .1);
+      does = line-idle (a .base) _ _ (l .f) _ _ _ _ (l .sum) _ (l .inv .4) (c .before .before .before .before .before .before .before .before .before .before .before .before .before .before .before .before .before .before .loop-test .taken) _ (ap lending (l .inv .1)) _ _ _ _ _ (c .before .before .before .before .before .before .before .before .before .before .dma-minor .ensures) _ (c .before .before .before .before .before .before .before .before .before .before .before .before .before .before .before .before .nbytes-of .ensures .0) (c .before .before .before .before .before .before .before .before .before .before .before .before .before .before .before .before .nbytes-of .ensures .2) (c .before .before .csr-of .ensures .1) (c .enum-told .given .1);
     }
 
 enum-known-s : tie.Need-enum-known-s Inv-loop μ-loop
@@ -85,7 +85,7 @@ returns-2 c =
     let l = c .before .before .before .before .before .before .before .before .before .before .before .before .before .before .before .before .before .before .before .before .before .before .before .loop in
     record {
       small = broken-small _ (l .sum) _ (c .at-sum .ensures) (c .before .enum-told2 .given .1);
-      does = λ d. rw (c .at-sum .ensures) (line-off (a .base) _ _ (l .f) _ _ _ _ (l .sum) _ (l .inv .4) (c .before .before .before .before .before .before .before .before .before .before .before .before .before .before .before .before .before .before .before .before .before .before .loop-test .taken) _ (l .inv .1) _ _ _ _ _ (c .before .before .before .before .before .before .before .before .before .before .before .before .before .before .dma-minor .ensures) _ (c .before .before .before .before .before .before .before .before .before .before .before .before .before .before .before .before .before .before .before .before .nbytes-of .ensures .0) (c .before .before .before .before .before .before .before .before .before .before .before .before .before .before .before .before .before .before .before .before .nbytes-of .ensures .2) (c .before .before .before .before .before .before .csr-of .ensures .1) _ (c .before .before .before .before .r .given .1) (c .before .enum-told2 .given .1) d);
+      does = λ d. rw (c .at-sum .ensures) (line-off (a .base) _ _ (l .f) _ _ _ _ (l .sum) _ (l .inv .4) (c .before .before .before .before .before .before .before .before .before .before .before .before .before .before .before .before .before .before .before .before .before .before .loop-test .taken) _ (ap lending (l .inv .1)) _ _ _ _ _ (c .before .before .before .before .before .before .before .before .before .before .before .before .before .before .dma-minor .ensures) _ (c .before .before .before .before .before .before .before .before .before .before .before .before .before .before .before .before .before .before .before .before .nbytes-of .ensures .0) (c .before .before .before .before .before .before .before .before .before .before .before .before .before .before .before .before .before .before .before .before .nbytes-of .ensures .2) (c .before .before .before .before .before .before .csr-of .ensures .1) _ (c .before .before .before .before .r .given .1) (c .before .enum-told2 .given .1) d);
     }
 
 add-sum : tie.Need-add-sum Inv-loop μ-loop
@@ -109,7 +109,7 @@ returns-3 c =
     let l = c .before .before .before .before .before .before .before .before .before .before .before .before .before .before .before .before .before .before .before .before .before .before .before .before .before .loop in
     record {
       small = search (needs, c .before .before .before .before .before .before .before .before .before .before .before .before .before .before .before .before .before .before .before .before .before .before .nbytes-of .ensures .1);
-      does = line-done (a .base) _ _ (l .f) _ _ _ _ (l .sum) _ (l .inv .4) (c .before .before .before .before .before .before .before .before .before .before .before .before .before .before .before .before .before .before .before .before .before .before .before .before .loop-test .taken) _ (l .inv .1) _ _ _ _ _ (c .before .before .before .before .before .before .before .before .before .before .before .before .before .before .before .before .dma-minor .ensures) _ (c .before .before .before .before .before .before .before .before .before .before .before .before .before .before .before .before .before .before .before .before .before .before .nbytes-of .ensures .0) (c .before .before .before .before .before .before .before .before .before .before .before .before .before .before .before .before .before .before .before .before .before .before .nbytes-of .ensures .2) (c .before .before .before .before .before .before .before .before .csr-of .ensures .1) _ (c .before .before .before .before .before .before .r .given .1) _ (c .before .before .before .s .given .1) _ (c .before .before .before .before .before .before .before .before .csr-of .ensures .0) (sym (c .before .has-bit .ensures) ∙ c .if1 .taken);
+      does = line-done (a .base) _ _ (l .f) _ _ _ _ (l .sum) _ (l .inv .4) (c .before .before .before .before .before .before .before .before .before .before .before .before .before .before .before .before .before .before .before .before .before .before .before .before .loop-test .taken) _ (ap lending (l .inv .1)) _ _ _ _ _ (c .before .before .before .before .before .before .before .before .before .before .before .before .before .before .before .before .dma-minor .ensures) _ (c .before .before .before .before .before .before .before .before .before .before .before .before .before .before .before .before .before .before .before .before .before .before .nbytes-of .ensures .0) (c .before .before .before .before .before .before .before .before .before .before .before .before .before .before .before .before .before .before .before .before .before .before .nbytes-of .ensures .2) (c .before .before .before .before .before .before .before .before .csr-of .ensures .1) _ (c .before .before .before .before .before .before .r .given .1) _ (c .before .before .before .s .given .1) _ (c .before .before .before .before .before .before .before .before .csr-of .ensures .0) (sym (c .before .has-bit .ensures) ∙ c .if1 .taken);
     }
 
 same-length-10 : tie.Need-same-length-10 Inv-loop μ-loop
@@ -127,7 +127,7 @@ returns-4 c =
     let l = c .before .before .before .before .before .before .before .before .before .before .before .before .before .before .before .before .before .before .before .before .before .before .before .before .before .before .loop in
     record {
       small = search (needs, c .before .before .before .before .before .before .before .before .before .before .before .before .before .before .before .before .before .before .before .before .before .before .before .nbytes-of .ensures .1);
-      does = line-over (a .base) _ _ (l .f) _ _ _ _ (l .sum) _ (l .inv .4) (c .before .before .before .before .before .before .before .before .before .before .before .before .before .before .before .before .before .before .before .before .before .before .before .before .before .loop-test .taken) _ (l .inv .1) _ _ _ _ _ (c .before .before .before .before .before .before .before .before .before .before .before .before .before .before .before .before .before .dma-minor .ensures) _ (c .before .before .before .before .before .before .before .before .before .before .before .before .before .before .before .before .before .before .before .before .before .before .before .nbytes-of .ensures .0) (c .before .before .before .before .before .before .before .before .before .before .before .before .before .before .before .before .before .before .before .before .before .before .before .nbytes-of .ensures .2) (c .before .before .before .before .before .before .before .before .before .csr-of .ensures .1) _ (c .before .before .before .before .before .before .before .r .given .1) _ (c .before .before .before .before .s .given .1) _ (c .before .before .before .before .before .before .before .before .before .csr-of .ensures .0) (sym (c .before .before .has-bit .ensures) ∙ c .before .if1 .left) (c .if2 .taken);
+      does = line-over (a .base) _ _ (l .f) _ _ _ _ (l .sum) _ (l .inv .4) (c .before .before .before .before .before .before .before .before .before .before .before .before .before .before .before .before .before .before .before .before .before .before .before .before .before .loop-test .taken) _ (ap lending (l .inv .1)) _ _ _ _ _ (c .before .before .before .before .before .before .before .before .before .before .before .before .before .before .before .before .before .dma-minor .ensures) _ (c .before .before .before .before .before .before .before .before .before .before .before .before .before .before .before .before .before .before .before .before .before .before .before .nbytes-of .ensures .0) (c .before .before .before .before .before .before .before .before .before .before .before .before .before .before .before .before .before .before .before .before .before .before .before .nbytes-of .ensures .2) (c .before .before .before .before .before .before .before .before .before .csr-of .ensures .1) _ (c .before .before .before .before .before .before .before .r .given .1) _ (c .before .before .before .before .s .given .1) _ (c .before .before .before .before .before .before .before .before .before .csr-of .ensures .0) (sym (c .before .before .has-bit .ensures) ∙ c .before .if1 .left) (c .if2 .taken);
     }
 
 sub-left : tie.Need-sub-left Inv-loop μ-loop
@@ -140,7 +140,7 @@ loop-again : tie.Need-loop-again Inv-loop μ-loop
 loop-again c =
     let a = c .before .before .before .before .before .before .before .before .before .before .before .before .before .before .before .before .before .before .before .before .before .before .before .before .before .before .before .before .before .before .args in
     let l = c .before .before .before .before .before .before .before .before .before .before .before .before .before .before .before .before .before .before .before .before .before .before .before .before .before .before .loop in
-    (search needs, search needs, search needs, search needs, line-again (a .base) _ _ (l .f) _ _ _ _ (l .sum) _ (l .inv .4) (c .before .before .before .before .before .before .before .before .before .before .before .before .before .before .before .before .before .before .before .before .before .before .before .before .before .loop-test .taken) _ (l .inv .1) _ _ _ _ _ (c .before .before .before .before .before .before .before .before .before .before .before .before .before .before .before .before .before .dma-minor .ensures) _ (c .before .before .before .before .before .before .before .before .before .before .before .before .before .before .before .before .before .before .before .before .before .before .before .nbytes-of .ensures .0) (c .before .before .before .before .before .before .before .before .before .before .before .before .before .before .before .before .before .before .before .before .before .before .before .nbytes-of .ensures .2) (c .before .before .before .before .before .before .before .before .before .csr-of .ensures .1) _ (c .before .before .before .before .before .before .before .r .given .1) _ (c .before .before .before .before .s .given .1) _ (c .before .before .before .before .before .before .before .before .before .csr-of .ensures .0) (sym (c .before .before .has-bit .ensures) ∙ c .before .if1 .left) (c .if2 .left))
+    (search needs, search needs, search needs, search needs, line-again (a .base) _ _ (l .f) _ _ _ _ (l .sum) _ (l .inv .4) (c .before .before .before .before .before .before .before .before .before .before .before .before .before .before .before .before .before .before .before .before .before .before .before .before .before .loop-test .taken) _ (ap lending (l .inv .1)) _ _ _ _ _ (c .before .before .before .before .before .before .before .before .before .before .before .before .before .before .before .before .before .dma-minor .ensures) _ (c .before .before .before .before .before .before .before .before .before .before .before .before .before .before .before .before .before .before .before .before .before .before .before .nbytes-of .ensures .0) (c .before .before .before .before .before .before .before .before .before .before .before .before .before .before .before .before .before .before .before .before .before .before .before .nbytes-of .ensures .2) (c .before .before .before .before .before .before .before .before .before .csr-of .ensures .1) _ (c .before .before .before .before .before .before .before .r .given .1) _ (c .before .before .before .before .s .given .1) _ (c .before .before .before .before .before .before .before .before .before .csr-of .ensures .0) (sym (c .before .before .has-bit .ensures) ∙ c .before .if1 .left) (c .if2 .left))
 
 same-length-13 : tie.Need-same-length-13 Inv-loop μ-loop
 same-length-13 c = search needs

@@ -5,9 +5,9 @@ use Rattle.rules.specs.With.{withPending}
 use Rattle.rules.specs.Run.{requestLoop, requestPasses}
 use borrow.Author.Needs.{needs}
 use lib.ListN.{length}
-use mathlib.Core.Path.{_≡_, refl}
+use mathlib.Core.Path.{_≡_, refl, ap}
 use Rattle.rules.specs.State.{Device}
-use Rattle.rules.specs.Carry.{go}
+use Rattle.rules.specs.Carry.{go, lending}
 use Rattle.flow.specs.Worlds.{world}
 use Rattle.channel.proofs.request_loop.Statement.{statement}
 use Rattle.channel.proofs.request_loop.Tie as tie
@@ -18,8 +18,8 @@ Inv-loop standing window₀ base table₀ majors₀ pending₀ ch staging₀ jou
     × (length staging ≡ length staging₀)
     × (length journal ≡ length journal₀)
     × ((d : Device) → d .standing ≡ standing
-    → go base (length staging₀) (requestLoop left ch) (world (withPending d pending) f window journal table majors)
-    ≡ go base (length staging₀) (requestLoop requestPasses ch) (world (withPending d pending₀) f₀ window₀ journal₀ table₀ majors₀))
+    → go base (lending (length staging₀)) (requestLoop left ch) (world (withPending d pending) f window journal table majors)
+    ≡ go base (lending (length staging₀)) (requestLoop requestPasses ch) (world (withPending d pending₀) f₀ window₀ journal₀ table₀ majors₀))
 
 abbrev μ-loop : tie.MeasureT-loop
 μ-loop standing window₀ base table₀ majors₀ pending₀ ch staging₀ journal₀ f₀ left₀ window table majors pending staging journal f left =
@@ -72,7 +72,7 @@ returns-2 : tie.Need-returns-2 Inv-loop μ-loop
 returns-2 c =
     let a = c .before .before .before .before .before .before .before .before .before .before .before .before .before .before .before .before .before .before .before .before .before .before .before .before .args in
     let l = c .before .before .before .before .before .before .before .before .before .before .before .before .before .before .before .before .before .before .before .before .loop in
-    request-idle (a .base) _ (a .standing) (a .ch) _ (l .f) _ _ _ _ _ _ (l .inv .3) (c .before .before .before .before .before .before .before .before .before .before .before .before .before .before .before .before .before .before .before .loop-test .taken) (c .before .before .before .before .before .before .before .before .before .before .before .before .before .before .before .before .before .offered .ensures) (not-false _ (c .before .before .before .before .before .before .before .before .before .before .before .before .before .before .before .before .if1 .left)) _ (c .before .before .before .before .before .before .before .before .before .before .before .before .before .before .spend .ensures .0) (c .before .before .before .before .before .before .before .before .before .before .before .before .before .before .spend .ensures .1) _ (l .inv .1) _ _ _ _ _ (c .before .before .before .before .before .before .before .before .dma-minor .ensures) (c .enum-told .given .1)
+    request-idle (a .base) _ (a .standing) (a .ch) _ (l .f) _ _ _ _ _ _ (l .inv .3) (c .before .before .before .before .before .before .before .before .before .before .before .before .before .before .before .before .before .before .before .loop-test .taken) (c .before .before .before .before .before .before .before .before .before .before .before .before .before .before .before .before .before .offered .ensures) (not-false _ (c .before .before .before .before .before .before .before .before .before .before .before .before .before .before .before .before .if1 .left)) _ (c .before .before .before .before .before .before .before .before .before .before .before .before .before .before .spend .ensures .0) (c .before .before .before .before .before .before .before .before .before .before .before .before .before .before .spend .ensures .1) _ (ap lending (l .inv .1)) _ _ _ _ _ (c .before .before .before .before .before .before .before .before .dma-minor .ensures) (c .enum-told .given .1)
 
 enum-known-s-2 : tie.Need-enum-known-s-2 Inv-loop μ-loop
 enum-known-s-2 c = search needs
@@ -93,7 +93,7 @@ returns-3 : tie.Need-returns-3 Inv-loop μ-loop
 returns-3 c =
     let a = c .before .before .before .before .before .before .before .before .before .before .before .before .before .before .before .before .before .before .before .before .before .before .before .before .before .before .before .args in
     let l = c .before .before .before .before .before .before .before .before .before .before .before .before .before .before .before .before .before .before .before .before .before .before .before .loop in
-    request-off (a .base) _ (a .standing) (a .ch) _ (l .f) _ _ _ _ _ _ (l .inv .3) (c .before .before .before .before .before .before .before .before .before .before .before .before .before .before .before .before .before .before .before .before .before .before .loop-test .taken) (c .before .before .before .before .before .before .before .before .before .before .before .before .before .before .before .before .before .before .before .before .offered .ensures) (not-false _ (c .before .before .before .before .before .before .before .before .before .before .before .before .before .before .before .before .before .before .before .if1 .left)) _ (c .before .before .before .before .before .before .before .before .before .before .before .before .before .before .before .before .before .spend .ensures .0) (c .before .before .before .before .before .before .before .before .before .before .before .before .before .before .before .before .before .spend .ensures .1) _ (l .inv .1) _ _ _ _ _ (c .before .before .before .before .before .before .before .before .before .before .before .dma-minor .ensures) _ (c .before .before .before .s .given .1) (c .enum-told2 .given .1)
+    request-off (a .base) _ (a .standing) (a .ch) _ (l .f) _ _ _ _ _ _ (l .inv .3) (c .before .before .before .before .before .before .before .before .before .before .before .before .before .before .before .before .before .before .before .before .before .before .loop-test .taken) (c .before .before .before .before .before .before .before .before .before .before .before .before .before .before .before .before .before .before .before .before .offered .ensures) (not-false _ (c .before .before .before .before .before .before .before .before .before .before .before .before .before .before .before .before .before .before .before .if1 .left)) _ (c .before .before .before .before .before .before .before .before .before .before .before .before .before .before .before .before .before .spend .ensures .0) (c .before .before .before .before .before .before .before .before .before .before .before .before .before .before .before .before .before .spend .ensures .1) _ (ap lending (l .inv .1)) _ _ _ _ _ (c .before .before .before .before .before .before .before .before .before .before .before .dma-minor .ensures) _ (c .before .before .before .s .given .1) (c .enum-told2 .given .1)
 
 sub-left : tie.Need-sub-left Inv-loop μ-loop
 sub-left c = search needs
@@ -105,7 +105,7 @@ loop-again : tie.Need-loop-again Inv-loop μ-loop
 loop-again c =
     let a = c .before .before .before .before .before .before .before .before .before .before .before .before .before .before .before .before .before .before .before .before .before .before .before .before .before .before .before .before .args in
     let l = c .before .before .before .before .before .before .before .before .before .before .before .before .before .before .before .before .before .before .before .before .before .before .before .before .loop in
-    (search needs, search needs, search needs, request-again (a .base) _ (a .standing) (a .ch) _ (l .f) _ _ _ _ _ _ (l .inv .3) (c .before .before .before .before .before .before .before .before .before .before .before .before .before .before .before .before .before .before .before .before .before .before .before .loop-test .taken) (c .before .before .before .before .before .before .before .before .before .before .before .before .before .before .before .before .before .before .before .before .before .offered .ensures) (not-false _ (c .before .before .before .before .before .before .before .before .before .before .before .before .before .before .before .before .before .before .before .before .if1 .left)) _ (c .before .before .before .before .before .before .before .before .before .before .before .before .before .before .before .before .before .before .spend .ensures .0) (c .before .before .before .before .before .before .before .before .before .before .before .before .before .before .before .before .before .before .spend .ensures .1) _ (l .inv .1) _ _ _ _ _ (c .before .before .before .before .before .before .before .before .before .before .before .before .dma-minor .ensures) _ (c .before .before .before .before .s .given .1) _ (c .before .s2 .given .1))
+    (search needs, search needs, search needs, request-again (a .base) _ (a .standing) (a .ch) _ (l .f) _ _ _ _ _ _ (l .inv .3) (c .before .before .before .before .before .before .before .before .before .before .before .before .before .before .before .before .before .before .before .before .before .before .before .loop-test .taken) (c .before .before .before .before .before .before .before .before .before .before .before .before .before .before .before .before .before .before .before .before .before .offered .ensures) (not-false _ (c .before .before .before .before .before .before .before .before .before .before .before .before .before .before .before .before .before .before .before .before .if1 .left)) _ (c .before .before .before .before .before .before .before .before .before .before .before .before .before .before .before .before .before .before .spend .ensures .0) (c .before .before .before .before .before .before .before .before .before .before .before .before .before .before .before .before .before .before .spend .ensures .1) _ (ap lending (l .inv .1)) _ _ _ _ _ (c .before .before .before .before .before .before .before .before .before .before .before .before .dma-minor .ensures) _ (c .before .before .before .before .s .given .1) _ (c .before .s2 .given .1))
 
 same-length-10 : tie.Need-same-length-10 Inv-loop μ-loop
 same-length-10 c = search needs

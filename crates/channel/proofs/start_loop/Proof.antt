@@ -3,9 +3,9 @@ use Rattle.channel.proofs.Passing.{start-idle, start-off, start-stop, s
 use Rattle.rules.specs.Run.{startLoop, startPasses}
 use borrow.Author.Needs.{needs}
 use lib.ListN.{length}
-use mathlib.Core.Path.{_≡_, refl}
+use mathlib.Core.Path.{_≡_, refl, ap}
 use Rattle.rules.specs.State.{Device}
-use Rattle.rules.specs.Carry.{go}
+use Rattle.rules.specs.Carry.{go, lending}
 use Rattle.flow.specs.Worlds.{world}
 use Rattle.channel.proofs.start_loop.Statement.{statement}
 use Rattle.channel.proofs.start_loop.Tie as tie
@@ -15,8 +15,8 @@ Inv-loop window₀ base table₀ majors₀ ch before staging₀ journal₀ f₀ 
     (length window ≡ length window₀)
     × (length staging ≡ length staging₀)
     × (length journal ≡ length journal₀)
-    × ((d : Device) → go base (length staging₀) (startLoop left ch before) (world d f window journal table majors)
-    ≡ go base (length staging₀) (startLoop startPasses ch before) (world d f₀ window₀ journal₀ table₀ majors₀))
+    × ((d : Device) → go base (lending (length staging₀)) (startLoop left ch before) (world d f window journal table majors)
+    ≡ go base (lending (length staging₀)) (startLoop startPasses ch before) (world d f₀ window₀ journal₀ table₀ majors₀))
 
 abbrev μ-loop : tie.MeasureT-loop
 μ-loop window₀ base table₀ majors₀ ch before staging₀ journal₀ f₀ left₀ window table majors staging journal f left =
@@ -48,7 +48,7 @@ returns : tie.Need-returns Inv-loop μ-loop
 returns c =
     let a = c .before .before .before .before .before .before .before .before .before .before .before .before .before .before .before .before .before .before .before .args in
     let l = c .before .before .before .before .before .before .before .before .before .before .before .before .before .before .before .loop in
-    start-idle (a .base) _ (a .ch) (a .before) _ (l .f) _ _ _ _ _ (l .inv .3) (c .before .before .before .before .before .before .before .before .before .before .before .before .before .before .loop-test .taken) _ (l .inv .1) _ _ _ _ _ (c .before .before .before .before .before .before .before .before .dma-minor .ensures) (c .enum-told .given .1)
+    start-idle (a .base) _ (a .ch) (a .before) _ (l .f) _ _ _ _ _ (l .inv .3) (c .before .before .before .before .before .before .before .before .before .before .before .before .before .before .loop-test .taken) _ (ap lending (l .inv .1)) _ _ _ _ _ (c .before .before .before .before .before .before .before .before .dma-minor .ensures) (c .enum-told .given .1)
 
 enum-known-s-2 : tie.Need-enum-known-s-2 Inv-loop μ-loop
 enum-known-s-2 c = search needs
@@ -69,7 +69,7 @@ returns-2 : tie.Need-returns-2 Inv-loop μ-loop
 returns-2 c =
     let a = c .before .before .before .before .before .before .before .before .before .before .before .before .before .before .before .before .before .before .before .before .before .before .args in
     let l = c .before .before .before .before .before .before .before .before .before .before .before .before .before .before .before .before .before .before .loop in
-    start-off (a .base) _ (a .ch) (a .before) _ (l .f) _ _ _ _ _ (l .inv .3) (c .before .before .before .before .before .before .before .before .before .before .before .before .before .before .before .before .before .loop-test .taken) _ (l .inv .1) _ _ _ _ _ (c .before .before .before .before .before .before .before .before .before .before .before .dma-minor .ensures) _ (c .before .before .before .s .given .1) (c .enum-told2 .given .1)
+    start-off (a .base) _ (a .ch) (a .before) _ (l .f) _ _ _ _ _ (l .inv .3) (c .before .before .before .before .before .before .before .before .before .before .before .before .before .before .before .before .before .loop-test .taken) _ (ap lending (l .inv .1)) _ _ _ _ _ (c .before .before .before .before .before .before .before .before .before .before .before .dma-minor .ensures) _ (c .before .before .before .s .given .1) (c .enum-told2 .given .1)
 
 mul-if1 : tie.Need-mul-if1 Inv-loop μ-loop
 mul-if1 c = search needs
@@ -90,7 +90,7 @@ returns-3 : tie.Need-returns-3 Inv-loop μ-loop
 returns-3 c =
     let a = c .before .before .before .before .before .before .before .before .before .before .before .before .before .before .before .before .before .before .before .before .before .before .before .before .before .args in
     let l = c .before .before .before .before .before .before .before .before .before .before .before .before .before .before .before .before .before .before .before .before .before .loop in
-    start-stop (a .base) _ (a .ch) (a .before) _ (l .f) _ _ _ _ _ (l .inv .3) (c .before .before .before .before .before .before .before .before .before .before .before .before .before .before .before .before .before .before .before .before .loop-test .taken) _ (l .inv .1) _ _ _ _ _ (c .before .before .before .before .before .before .before .before .before .before .before .before .before .before .dma-minor .ensures) _ (c .before .before .before .before .before .before .s .given .1) _ (c .before .before .before .s2 .given .1) (c .if1 .taken)
+    start-stop (a .base) _ (a .ch) (a .before) _ (l .f) _ _ _ _ _ (l .inv .3) (c .before .before .before .before .before .before .before .before .before .before .before .before .before .before .before .before .before .before .before .before .loop-test .taken) _ (ap lending (l .inv .1)) _ _ _ _ _ (c .before .before .before .before .before .before .before .before .before .before .before .before .before .before .dma-minor .ensures) _ (c .before .before .before .before .before .before .s .given .1) _ (c .before .before .before .s2 .given .1) (c .if1 .taken)
 
 sub-left : tie.Need-sub-left Inv-loop μ-loop
 sub-left c = search needs
@@ -102,7 +102,7 @@ loop-again : tie.Need-loop-again Inv-loop μ-loop
 loop-again c =
     let a = c .before .before .before .before .before .before .before .before .before .before .before .before .before .before .before .before .before .before .before .before .before .before .before .before .before .args in
     let l = c .before .before .before .before .before .before .before .before .before .before .before .before .before .before .before .before .before .before .before .before .before .loop in
-    (search needs, search needs, search needs, start-again (a .base) _ (a .ch) (a .before) _ (l .f) _ _ _ _ _ (l .inv .3) (c .before .before .before .before .before .before .before .before .before .before .before .before .before .before .before .before .before .before .before .before .loop-test .taken) _ (l .inv .1) _ _ _ _ _ (c .before .before .before .before .before .before .before .before .before .before .before .before .before .before .dma-minor .ensures) _ (c .before .before .before .before .before .before .s .given .1) _ (c .before .before .before .s2 .given .1) (c .if1 .left))
+    (search needs, search needs, search needs, start-again (a .base) _ (a .ch) (a .before) _ (l .f) _ _ _ _ _ (l .inv .3) (c .before .before .before .before .before .before .before .before .before .before .before .before .before .before .before .before .before .before .before .before .loop-test .taken) _ (ap lending (l .inv .1)) _ _ _ _ _ (c .before .before .before .before .before .before .before .before .before .before .before .before .before .before .dma-minor .ensures) _ (c .before .before .before .before .before .before .s .given .1) _ (c .before .before .before .s2 .given .1) (c .if1 .left))
 
 same-length-10 : tie.Need-same-length-10 Inv-loop μ-loop
 same-length-10 c = search needs

@@ -24,11 +24,11 @@ same-length c = search needs
 
 returns : tie.Need-returns
 unfolding orNothing walked on
-returns c base staging w = rw (write-command _ _ (c .before .before .before .before .before .before .before .pre) (sym (c .before .before .before .before .before .within .ensures) ∙ c .before .before .before .before .if1 .taken)) (c .before .before .command .ensures base staging w)
+returns c base lent w = rw (write-command _ _ (c .before .before .before .before .before .before .before .pre) (sym (c .before .before .before .before .before .within .ensures) ∙ c .before .before .before .before .if1 .taken)) (c .before .before .command .ensures base lent w)
 
 returns-2 : tie.Need-returns-2
 unfolding walked go
-returns-2 c base staging w = rw (byte-idle _ _ (c .before .before .before .pre) (sym (c .before .within .ensures) ∙ c .if1 .left))
+returns-2 c base lent w = rw (byte-idle _ _ (c .before .before .before .pre) (sym (c .before .within .ensures) ∙ c .if1 .left))
 
 pub byte-written-spec : {M : Type 1} → statement M
 byte-written-spec =

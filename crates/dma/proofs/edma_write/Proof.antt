@@ -27,7 +27,7 @@ same-length c = search needs
 
 returns : tie.Need-returns
 unfolding orNothing
-returns c base staging w = rw (write-table _ _ _ (in-table _ (c .before .before .before .before .before .within .ensures) (c .before .before .before .before .if1 .taken))) (c .before .before .tcd-write .ensures base staging w)
+returns c base lent w = rw (write-table _ _ _ (in-table _ (c .before .before .before .before .before .within .ensures) (c .before .before .before .before .if1 .taken))) (c .before .before .tcd-write .ensures base lent w)
 
 byte-written-requires : tie.Need-byte-written-requires
 byte-written-requires c κs = in-table _ (c .before .before .before .within .ensures) (c .before .before .if1 .left)
@@ -39,17 +39,17 @@ same-length-2 : tie.Need-same-length-2
 same-length-2 c = search needs
 
 returns-2 : tie.Need-returns-2
-returns-2 c base staging w = rw (c .before .before .before .before .match .keys1) (c .before .before .byte-written .ensures base staging w)
+returns-2 c base lent w = rw (c .before .before .before .before .match .keys1) (c .before .before .byte-written .ensures base lent w)
 
 same-length-3 : tie.Need-same-length-3
 same-length-3 c = search needs
 
 returns-3 : tie.Need-returns-3
-returns-3 c base staging w = rw (c .before .before .before .before .match .keys2) (c .before .before .word-written .ensures base staging w)
+returns-3 c base lent w = rw (c .before .before .before .before .match .keys2) (c .before .before .word-written .ensures base lent w)
 
 returns-4 : tie.Need-returns-4
 unfolding orNothing walked go
-returns-4 c base staging w = rw (write-none _ _ (in-table _ (c .before .before .within .ensures) (c .before .if1 .left)) _ (c .match .rest .0 .1) (c .match .rest .1))
+returns-4 c base lent w = rw (write-none _ _ (in-table _ (c .before .before .within .ensures) (c .before .if1 .left)) _ (c .match .rest .0 .1) (c .match .rest .1))
 
 pub edma-write-spec : {M : Type 1} → statement M
 edma-write-spec =

@@ -30,10 +30,10 @@ same-length : tie.Need-same-length
 same-length c = search needs
 
 returns : tie.Need-returns
-returns c base staging w =
+returns c base lent w =
     let a = c .before .before .before .before .before .before .before .before .before .before .before .before .args in
-    table-written base staging (view (a .d)) w (a .journal .now) (a .at) (a .off) (a .size) (a .v) (c .before .before .before .before .before .before .store-table .result) _ _ (a .d .majors) (omega (arith, c .before .before .starts .ensures .1, small _ (c .before .before .before .before .before .before .before .before .before .before .before .before .pre .0))) (c .before .before .starts .ensures .0) (one-shl 64 _ (omega (arith, small _ (c .before .before .before .before .before .before .before .before .before .before .before .before .pre .0))))
-    (c .with-kick .ensures _ base staging w) (c .before .put-back .ensures w _) (c .before .before .before .before .before .before .store-table .ensures base staging (view (a .d)) w (a .d .majors)) (c .before .before .before .before .before .before .before .before .before .begun .ensures w (a .journal .now))
+    table-written base lent (view (a .d)) w (a .journal .now) (a .at) (a .off) (a .size) (a .v) (c .before .before .before .before .before .before .store-table .result) _ _ (a .d .majors) (omega (arith, c .before .before .starts .ensures .1, small _ (c .before .before .before .before .before .before .before .before .before .before .before .before .pre .0))) (c .before .before .starts .ensures .0) (one-shl 64 _ (omega (arith, small _ (c .before .before .before .before .before .before .before .before .before .before .before .before .pre .0))))
+    (c .with-kick .ensures _ base lent w) (c .before .put-back .ensures w _) (c .before .before .before .before .before .before .store-table .ensures base lent (view (a .d)) w (a .d .majors)) (c .before .before .before .before .before .before .before .before .before .begun .ensures w (a .journal .now))
 
 pub tcd-write-spec : {M : Type 1} → statement M
 tcd-write-spec =

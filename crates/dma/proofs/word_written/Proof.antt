@@ -22,17 +22,17 @@ same-length c = search needs
 
 returns : tie.Need-returns
 unfolding pick dmaArms orNothing walked on
-returns c base staging w = rw (write-word _ _ (c .before .before .before .before .before .before .pre), c .before .before .before .before .match .keys1) (c .before .before .commands .ensures base staging w)
+returns c base lent w = rw (write-word _ _ (c .before .before .before .before .before .before .pre), c .before .before .before .before .match .keys1) (c .before .before .commands .ensures base lent w)
 
 same-length-2 : tie.Need-same-length-2
 same-length-2 c = search needs
 
 returns-2 : tie.Need-returns-2
 unfolding pick dmaArms orNothing walked on
-returns-2 c base staging w = rw (write-word _ _ (c .before .before .before .before .before .before .pre), c .before .before .before .before .match .keys2) (c .before .before .commands2 .ensures base staging w)
+returns-2 c base lent w = rw (write-word _ _ (c .before .before .before .before .before .before .pre), c .before .before .before .before .match .keys2) (c .before .before .commands2 .ensures base lent w)
 
 returns-3 : tie.Need-returns-3
-returns-3 c base staging w = rw (write-word _ _ (c .before .before .before .pre)) (does-on base staging _ _ w _ _ _ (c .masks-written .ensures))
+returns-3 c base lent w = rw (write-word _ _ (c .before .before .before .pre)) (does-on base lent _ _ w _ _ _ (c .masks-written .ensures))
 
 pub word-written-spec : {M : Type 1} → statement M
 word-written-spec =

@@ -16,7 +16,7 @@ same-length c = search needs
 
 returns : tie.Need-returns
 unfolding clearDones flagged
-returns c base staging w = rw (← c .before .before .before .before .named .ensures) (c .before .before .flag-channels .ensures base staging w)
+returns c base lent w = rw (← c .before .before .before .before .named .ensures) (c .before .before .flag-channels .ensures base lent w)
 
 pub clear-dones-spec : {M : Type 1} → statement M
 clear-dones-spec = tie.close (tie.spec named-requires flag-channels-requires same-length returns)

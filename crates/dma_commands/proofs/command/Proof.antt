@@ -12,7 +12,7 @@ enum-told : tie.Need-enum-told
 enum-told c = search needs
 
 returns : tie.Need-returns
-returns c base staging w = off-stays base staging _ w _ _ (c .enum-told .given .1)
+returns c base lent w = off-stays base lent _ w _ _ (c .enum-told .given .1)
 
 set-starts-requires : tie.Need-set-starts-requires
 set-starts-requires c κs = search needs
@@ -28,17 +28,17 @@ same-length c = search needs
 
 returns-2 : tie.Need-returns-2
 unfolding command
-returns-2 c base staging w = rw (c .before .before .before .before .match2 .keys1) (on-from base staging _ w _ _ (c .before .before .before .before .before .before .w .given .1) (c .before .before .set-starts .ensures base staging w))
+returns-2 c base lent w = rw (c .before .before .before .before .match2 .keys1) (on-from base lent _ w _ _ (c .before .before .before .before .before .before .w .given .1) (c .before .before .set-starts .ensures base lent w))
 
 same-length-2 : tie.Need-same-length-2
 same-length-2 c = search needs
 
 returns-3 : tie.Need-returns-3
 unfolding command
-returns-3 c base staging w = rw (c .before .before .before .before .match2 .keys2) (on-from base staging _ w _ _ (c .before .before .before .before .before .before .w .given .1) (c .before .before .clear-dones .ensures base staging w))
+returns-3 c base lent w = rw (c .before .before .before .before .match2 .keys2) (on-from base lent _ w _ _ (c .before .before .before .before .before .before .w .given .1) (c .before .before .clear-dones .ensures base lent w))
 
 returns-4 : tie.Need-returns-4
-returns-4 c base staging w = on-from base staging _ w _ _ (c .before .before .before .w .given .1) (does-on base staging _ _ w _ _ _ (c .scalar-command .ensures))
+returns-4 c base lent w = on-from base lent _ w _ _ (c .before .before .before .w .given .1) (does-on base lent _ _ w _ _ _ (c .scalar-command .ensures))
 
 pub command-spec : {M : Type 1} → statement M
 command-spec =

@@ -31,9 +31,9 @@ same-length : tie.Need-same-length
 same-length c = search needs
 
 returns : tie.Need-returns
-returns c base staging w =
+returns c base lent w =
     let a = c .before .before .before .before .before .before .before .before .before .before .before .before .before .before .before .before .before .args in
-    in-row base staging (a .k) (a .v) (reached (a .s) w (now (a .journal))) (c .before .before .before .before .before .before .before .before .before .before .before .before .before .before .command .ensures base staging w) (c .before .before .before .before .before .before .before .before .before .before .command2 .ensures base staging w) (c .before .before .before .before .before .before .command3 .ensures base staging w) (c .before .before .command4 .ensures base staging w)
+    in-row base lent (a .k) (a .v) (reached (a .s) w (now (a .journal))) (c .before .before .before .before .before .before .before .before .before .before .before .before .before .before .command .ensures base lent w) (c .before .before .before .before .before .before .before .before .before .before .command2 .ensures base lent w) (c .before .before .before .before .before .before .command3 .ensures base lent w) (c .before .before .command4 .ensures base lent w)
 
 pub commands-spec : {M : Type 1} → statement M
 commands-spec =

@@ -18,9 +18,9 @@ same-length : tie.Need-same-length
 same-length c = search needs
 
 returns : tie.Need-returns
-returns c base staging w =
+returns c base lent w =
     let a = c .before .before .before .before .before .before .before .before .before .args in
-    through base staging _ (view (a .d)) w (a .journal .now) (a .at) (c .put-back .ensures w _) (c .before .before .before .flag-each .ensures base staging (view (a .d)) w (a .d .majors)) (c .before .before .before .before .before .before .begun .ensures w (a .journal .now))
+    through base lent _ (view (a .d)) w (a .journal .now) (a .at) (c .put-back .ensures w _) (c .before .before .before .flag-each .ensures base lent (view (a .d)) w (a .d .majors)) (c .before .before .before .before .before .before .begun .ensures w (a .journal .now))
 
 pub flag-channels-spec : {M : Type 1} → statement M
 flag-channels-spec =

@@ -2,6 +2,7 @@
 use lib.ListN.{length}
 use borrow.Author.Needs.{needs}
 use native.Mathlib.Omega.{arith}
+use Rattle.rules.specs.Carry.{Lent}
 use Rattle.dma_commands.proofs.Laws.{flag-turn, flag-end}
 use Rattle.dma_commands.specs.Reaching.{flagged}
 use Rattle.flow.specs.Worlds.{told, on}
@@ -17,13 +18,13 @@ abbrev Inv-loop : tie.InvT-loop
 Inv-loop table₀ start m journal₀ t₀ ch₀ table journal t ch =
     (ch ≤ 64)
     × (length journal ≡ length journal₀)
-    × ((base staging : ℕ) (d : Device) (w l : List ℕ) → on base staging (flagEach (flagged start) m (64 - ch) ch) (told t d w journal table l) ≡ on base staging (flagEach (flagged start) m 64 0) (told t₀ d w journal₀ table₀ l))
+    × ((base : ℕ) (lent : Lent) (d : Device) (w l : List ℕ) → on base lent (flagEach (flagged start) m (64 - ch) ch) (told t d w journal table l) ≡ on base lent (flagEach (flagged start) m 64 0) (told t₀ d w journal₀ table₀ l))
 
 abbrev μ-loop : tie.MeasureT-loop
 μ-loop table₀ start m journal₀ t₀ ch₀ table journal t ch = 64 - ch
 
 loop-holds : tie.Need-loop-holds Inv-loop μ-loop
-loop-holds c = (omega arith, refl, λ base staging d w l. refl)
+loop-holds c = (omega arith, refl, λ base lent d w l. refl)
 
 has-bit-requires : tie.Need-has-bit-requires Inv-loop μ-loop
 has-bit-requires c κs = search needs
@@ -39,13 +40,13 @@ loop-less c = search needs
 
 loop-again : tie.Need-loop-again Inv-loop μ-loop
 loop-again c =
-    (omega arith, omega arith, λ base staging d w l. flag-turn base staging _ _ (c .before .before .before .before .before .before .before .loop .ch) _ (c .before .before .before .before .before .before .before .loop .inv .2 base staging d w l) (c .before .before .before .before .before .before .loop-test .taken) (c .before .before .before .before .has-bit .ensures) (c .before .before .flag-one .ensures base staging d w l))
+    (omega arith, omega arith, λ base lent d w l. flag-turn base lent _ _ (c .before .before .before .before .before .before .before .loop .ch) _ (c .before .before .before .before .before .before .before .loop .inv .2 base lent d w l) (c .before .before .before .before .before .before .loop-test .taken) (c .before .before .before .before .has-bit .ensures) (c .before .before .flag-one .ensures base lent d w l))
 
 same-length : tie.Need-same-length Inv-loop μ-loop
 same-length c = search needs
 
 returns : tie.Need-returns Inv-loop μ-loop
-returns c base staging d w l = flag-end base staging _ _ (c .before .loop .ch) _ (c .before .loop .inv .2 base staging d w l) (omega arith)
+returns c base lent d w l = flag-end base lent _ _ (c .before .loop .ch) _ (c .before .loop .inv .2 base lent d w l) (omega arith)
 
 pub flag-each-spec : {M : Type 1} → statement M
 flag-each-spec =

@@ -8,7 +8,7 @@ use Rattle.dma_commands.proofs.flag_one.Statement.{statement}
 use Rattle.dma_commands.proofs.flag_one.Tie as tie
 
 returns : tie.Need-returns
-returns c base staging d w m = passed base staging _ _ _ (not-true _ (c .if1 .taken))
+returns c base lent d w m = passed base lent _ _ _ (not-true _ (c .if1 .taken))
 
 mul-place : tie.Need-mul-place
 mul-place c = search needs
@@ -32,10 +32,10 @@ same-length : tie.Need-same-length
 same-length c = search needs
 
 returns-2 : tie.Need-returns-2
-returns-2 c base staging d w m =
+returns-2 c base lent d w m =
     let a = c .before .before .before .before .before .before .before .before .before .before .before .args in
-    taken base staging _ _ _ (not-false _ (c .before .before .before .before .before .before .before .before .before .if1 .left))
-    (flag-done base staging (a .s) d w (a .journal .now) (a .table .now) m _ (a .ch) (omega arith) (c .before .before .before .before .before .before .get1 .ensures) (c .before .before .before .before .flagged .ensures) (c .before .before .store-table .ensures base staging d w m))
+    taken base lent _ _ _ (not-false _ (c .before .before .before .before .before .before .before .before .before .if1 .left))
+    (flag-done base lent (a .s) d w (a .journal .now) (a .table .now) m _ (a .ch) (omega arith) (c .before .before .before .before .before .before .get1 .ensures) (c .before .before .before .before .flagged .ensures) (c .before .before .store-table .ensures base lent d w m))
 
 pub flag-one-spec : {M : Type 1} → statement M
 flag-one-spec =

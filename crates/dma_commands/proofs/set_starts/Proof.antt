@@ -17,7 +17,7 @@ same-length : tie.Need-same-length
 same-length c = search needs
 
 returns : tie.Need-returns
-returns c base staging w = starts base staging _ _ (c .before .before .before .before .before .named .ensures) (c .with-kick .ensures _ base staging w) (c .before .before .before .flag-channels .ensures base staging w)
+returns c base lent w = starts base lent _ _ (c .before .before .before .before .before .named .ensures) (c .with-kick .ensures _ base lent w) (c .before .before .before .flag-channels .ensures base lent w)
 
 pub set-starts-spec : {M : Type 1} → statement M
 set-starts-spec =

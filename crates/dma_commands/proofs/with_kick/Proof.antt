@@ -13,15 +13,15 @@ enum-told : tie.Need-enum-told
 enum-told c = search needs
 
 returns : tie.Need-returns
-returns c j base staging w = off-stays base staging _ w j _ (c .enum-told .given .1)
+returns c j base lent w = off-stays base lent _ w j _ (c .enum-told .given .1)
 
 returns-2 : tie.Need-returns-2
-returns-2 c j base staging w = passed base staging _ _ _ (not-true _ (c .if1 .taken))
+returns-2 c j base lent w = passed base lent _ _ _ (not-true _ (c .if1 .taken))
 
 returns-3 : tie.Need-returns-3
-returns-3 c j base staging w =
-    taken base staging _ _ _ (not-false _ (c .before .before .if1 .left))
-    (on-from base staging _ w j _ (c .before .before .before .before .w .given .1) (does-on base staging _ _ w j _ _ (kicks _ _ (search needs) (search needs))))
+returns-3 c j base lent w =
+    taken base lent _ _ _ (not-false _ (c .before .before .if1 .left))
+    (on-from base lent _ w j _ (c .before .before .before .before .w .given .1) (does-on base lent _ _ w j _ _ (kicks _ _ (search needs) (search needs))))
 
 pub with-kick-spec : {M : Type 1} → statement M
 with-kick-spec = tie.close (tie.spec enum-known-w enum-told returns returns-2 returns-3)

@@ -11,7 +11,7 @@ enum-told-2 : tie.Need-enum-told-2
 enum-told-2 c = search needs
 
 returns : tie.Need-returns
-returns c base staging d w j t = stays base staging _ d w j t _ (c .enum-told2 .given .1)
+returns c base lent d w j t = stays base lent _ d w j t _ (c .enum-told2 .given .1)
 
 mul-n : tie.Need-mul-n
 mul-n c = search needs
@@ -29,7 +29,7 @@ element-write-majors : tie.Need-element-write-majors
 element-write-majors c = search needs
 
 returns-2 : tie.Need-returns-2
-returns-2 c base staging d w j t = majors-changed base staging d _ w j t _ (c .before .before .enum-told .given .1) _ _ (c .wrapping-add-u64 .ensures) (search needs)
+returns-2 c base lent d w j t = majors-changed base lent d _ w j t _ (c .before .before .enum-told .given .1) _ _ (c .wrapping-add-u64 .ensures) (search needs)
 
 pub count-major-spec : {M : Type 1} → statement M
 count-major-spec =

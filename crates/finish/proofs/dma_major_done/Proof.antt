@@ -33,14 +33,14 @@ same-length c = search needs
 
 returns : tie.Need-returns
 unfolding majorEnd
-returns c staging d =
+returns c lent d =
     let a = c .before .before .before .before .before .before .before .before .before .before .before .before .before .before .before .before .before .before .args in
-    let counted = c .before .before .before .before .before .before .before .before .before .before .before .before .count-major .ensures (a .base) staging d (a .window .now) _ _ in
-    let reloaded = c .before .before .before .before .before .before .before .before .before .reload .ensures staging d _ in
-    let flagged = c .before .before .before .before .before .before .flags .ensures (a .base) staging d (a .window .now) _ _ _ in
-    let linked = c .before .before .link-to .ensures (a .base) staging d (a .window .now) _ in
-    then (a .base) staging _ _ _ (then (a .base) staging _ _ _ (then (a .base) staging _ _ _ linked flagged) reloaded) counted
-    ∙ rw (c .before .before .before .before .csr-has .ensures) (described (a .base) staging _ d _ _ _ _ (a .ch) _ (c .before .before .before .before .before .before .before .before .before .before .before .before .before .before .read-tcd .ensures .0) (omega (arith, c .before .before .before .before .before .before .before .before .before .before .before .before .before .before .read-tcd .ensures .1, c .before .before .before .before .before .before .before .before .before .before .before .before .before .before .before .before .before .before .pre)))
+    let counted = c .before .before .before .before .before .before .before .before .before .before .before .before .count-major .ensures (a .base) lent d (a .window .now) _ _ in
+    let reloaded = c .before .before .before .before .before .before .before .before .before .reload .ensures lent d _ in
+    let flagged = c .before .before .before .before .before .before .flags .ensures (a .base) lent d (a .window .now) _ _ _ in
+    let linked = c .before .before .link-to .ensures (a .base) lent d (a .window .now) _ in
+    then (a .base) lent _ _ _ (then (a .base) lent _ _ _ (then (a .base) lent _ _ _ linked flagged) reloaded) counted
+    ∙ rw (c .before .before .before .before .csr-has .ensures) (described (a .base) lent _ d _ _ _ _ (a .ch) _ (c .before .before .before .before .before .before .before .before .before .before .before .before .before .before .read-tcd .ensures .0) (omega (arith, c .before .before .before .before .before .before .before .before .before .before .before .before .before .before .read-tcd .ensures .1, c .before .before .before .before .before .before .before .before .before .before .before .before .before .before .before .before .before .before .pre)))
 
 pub dma-major-done-spec : {M : Type 1} → statement M
 dma-major-done-spec =

@@ -35,12 +35,12 @@ same-length c = search needs
 
 returns : tie.Need-returns
 unfolding minorEnd
-returns c staging d =
-    let e1 = c .before .before .before .before .before .before .before .before .before .before .before .minor-stores .ensures _ staging d _ _ in
-    let e2 = c .before .before .before .before .before .before .before .raise-int .ensures _ staging d _ _ _ _ in
-    let e3 = c .before .before .dma-major-done .ensures staging d in
+returns c lent d =
+    let e1 = c .before .before .before .before .before .before .before .before .before .before .before .minor-stores .ensures _ lent d _ _ in
+    let e2 = c .before .before .before .before .before .before .before .raise-int .ensures _ lent d _ _ _ _ in
+    let e3 = c .before .before .dma-major-done .ensures lent d in
     rw (← c .before .before .before .before .before .before .before .before .before .before .before .before .before .before .before .before .count-of .ensures, ← c .before .before .before .before .before .before .before .before .before .before .before .before .before .before .before .recounted .ensures, ← c .before .before .before .before .before .before .before .before .before .before .before .before .before .before .started .ensures, ← c .before .before .before .before .before .before .before .before .halfway .ensures)
-    (then _ staging _ _ _ (then _ staging _ _ _ (picked _ staging _ _ _ _ (eq-eqb _ _ (c .before .before .before .before .before .before .if1 .taken)) e3) e2) e1)
+    (then _ lent _ _ _ (then _ lent _ _ _ (picked _ lent _ _ _ _ (eq-eqb _ _ (c .before .before .before .before .before .before .if1 .taken)) e3) e2) e1)
 
 is-linked-requires : tie.Need-is-linked-requires
 is-linked-requires c κs = search needs
@@ -56,12 +56,12 @@ same-length-2 c = search needs
 
 returns-2 : tie.Need-returns-2
 unfolding minorEnd
-returns-2 c staging d =
-    let e1 = c .before .before .before .before .before .before .before .before .before .before .before .before .minor-stores .ensures _ staging d _ _ in
-    let e2 = c .before .before .before .before .before .before .before .before .raise-int .ensures _ staging d _ _ _ _ in
-    let e3 = c .before .before .link-to .ensures _ staging d _ _ in
+returns-2 c lent d =
+    let e1 = c .before .before .before .before .before .before .before .before .before .before .before .before .minor-stores .ensures _ lent d _ _ in
+    let e2 = c .before .before .before .before .before .before .before .before .raise-int .ensures _ lent d _ _ _ _ in
+    let e3 = c .before .before .link-to .ensures _ lent d _ _ in
     rw (← c .before .before .before .before .before .before .before .before .before .before .before .before .before .before .before .before .before .count-of .ensures, ← c .before .before .before .before .before .before .before .before .before .before .before .before .before .before .before .before .recounted .ensures, ← c .before .before .before .before .before .before .before .before .before .before .before .before .before .before .before .started .ensures, ← c .before .before .before .before .before .before .before .before .before .halfway .ensures, ← c .before .before .before .before .before .is-linked .ensures, ← c .before .before .before .before .link-of .ensures .0)
-    (then _ staging _ _ _ (then _ staging _ _ _ (left-out _ staging _ _ _ _ (ne-eqb _ _ (c .before .before .before .before .before .before .before .if1 .left)) e3) e2) e1)
+    (then _ lent _ _ _ (then _ lent _ _ _ (left-out _ lent _ _ _ _ (ne-eqb _ _ (c .before .before .before .before .before .before .before .if1 .left)) e3) e2) e1)
 
 pub dma-minor-done-spec : {M : Type 1} → statement M
 dma-minor-done-spec =

@@ -34,9 +34,9 @@ same-length c = search needs
 
 returns : tie.Need-returns
 unfolding link when
-returns c base staging d w m =
-    then base staging _ _ _ (c .raise-kick .ensures base staging d w _ _ m) (c .before .before .before .store-table .ensures base staging d w m)
-    ∙ rw (c .before .before .before .before .before .before .gain-bit .ensures, c .before .before .before .before .before .before .before .get1 .ensures) (sym (fetched base staging _ d w _ _ m _ _ _ (omega arith)))
+returns c base lent d w m =
+    then base lent _ _ _ (c .raise-kick .ensures base lent d w _ _ m) (c .before .before .before .store-table .ensures base lent d w m)
+    ∙ rw (c .before .before .before .before .before .before .gain-bit .ensures, c .before .before .before .before .before .before .before .get1 .ensures) (sym (fetched base lent _ d w _ _ m _ _ _ (omega arith)))
 
 pub dma-start-linked-spec : {M : Type 1} → statement M
 dma-start-linked-spec =

@@ -19,9 +19,9 @@ lower-erq-requires c κs = search needs
 
 returns : tie.Need-returns
 unfolding flags
-returns c base staging d w j t m =
+returns c base lent d w j t m =
     rw (← c .before .before .before .csr-has .ensures, ← c .before .csr-has2 .ensures)
-    (then base staging _ _ _ (c .lower-erq .ensures base staging d w j t m) (c .before .before .raise-int .ensures base staging d w j t m))
+    (then base lent _ _ _ (c .lower-erq .ensures base lent d w j t m) (c .before .before .raise-int .ensures base lent d w j t m))
 
 pub flags-spec : {M : Type 1} → statement M
 flags-spec =

@@ -9,6 +9,7 @@ use native.Mathlib.Omega.{arith}
 use lib.ListN.{length, take, length-set}
 use lib.Seq.{take-suc-set}
 use borrow.Author.Needs.{needs}
+use Rattle.rules.specs.Carry.{Lent}
 use Rattle.rules.specs.Act.{Act, _>>=_}
 use Rattle.rules.specs.Minor.{gather}
 use Rattle.rules.specs.State.{Device}
@@ -23,7 +24,7 @@ abbrev Inv-loop : tie.InvT-loop
 Inv-loop s window base from next₀ c i₀ next i =
     (i ≤ 32)
     × (length next ≡ 32)
-    × ((staging : ℕ) (d : Device) (j t m : List ℕ) (k : List ℕ → Act (Unit {0})) → on base staging (gather (32 - i) (from + i) (take i next) >>= k) (told s d window j t m) ≡ on base staging (gather 32 from [] >>= k) (told s d window j t m))
+    × ((lent : Lent) (d : Device) (j t m : List ℕ) (k : List ℕ → Act (Unit {0})) → on base lent (gather (32 - i) (from + i) (take i next) >>= k) (told s d window j t m) ≡ on base lent (gather 32 from [] >>= k) (told s d window j t m))
 
 abbrev μ-loop : tie.MeasureT-loop
 μ-loop s window base from next₀ c i₀ next i = 32 - i
@@ -35,10 +36,10 @@ enum-told : tie.Need-enum-told Inv-loop μ-loop
 enum-told c = search needs
 
 returns : tie.Need-returns Inv-loop μ-loop
-returns c staging d j t m k = stays-so _ staging _ _ d _ j t m (c .enum-told .given .1)
+returns c lent d j t m k = stays-so _ lent _ _ d _ j t m (c .enum-told .given .1)
 
 loop-holds : tie.Need-loop-holds Inv-loop μ-loop
-loop-holds c = (omega arith, search needs, λ staging d j t m k. rw add-zero)
+loop-holds c = (omega arith, search needs, λ lent d j t m k. rw add-zero)
 
 cast-wrapping-add-u32 : tie.Need-cast-wrapping-add-u32 Inv-loop μ-loop
 cast-wrapping-add-u32 c = search needs
@@ -59,11 +60,11 @@ same-length : tie.Need-same-length Inv-loop μ-loop
 same-length c = search needs
 
 returns-2 : tie.Need-returns-2 Inv-loop μ-loop
-returns-2 c staging d j t m k =
+returns-2 c lent d j t m k =
     let at = c .before .before .before .before .before in
-    gather-outside _ staging d _ _ j t m k 32 _ _ (c .before .before .before .before .loop-test .taken) _ (c .before .before .before .wrapping-add-u32 .ensures) (c .before .before .where-is .ensures) (c .enum-told2 .given .1) _
-    ∙ at .loop .inv .2 staging d j t m k
-    ∙ told-so _ staging _ d _ j t m (at .before .before .s .given .1)
+    gather-outside _ lent d _ _ j t m k 32 _ _ (c .before .before .before .before .loop-test .taken) _ (c .before .before .before .wrapping-add-u32 .ensures) (c .before .before .where-is .ensures) (c .enum-told2 .given .1) _
+    ∙ at .loop .inv .2 lent d j t m k
+    ∙ told-so _ lent _ d _ j t m (at .before .before .s .given .1)
 
 shared-slice-read-next : tie.Need-shared-slice-read-next Inv-loop μ-loop
 shared-slice-read-next c = omega (arith, at-fits _ _ _ 1 (c .before .before .before .before .where-is .ensures) (c .before .before .o .given .1))
@@ -82,20 +83,20 @@ loop-again c =
     let at = c .before .before .before .before .before .before .before in (
       omega arith,
       simp length-set (at .loop .inv .1),
-      λ staging d j t m k. rw (add-one (at .loop .i), take-suc-set (at .loop .next) (at .loop .i) _ (omega arith), ← add-one (at .loop .i))
-          (gather-inside _ staging d _ _ j t m k 32 _ _ (c .before .before .before .before .before .before .loop-test .taken) _ (c .before .before .before .before .before .wrapping-add-u32 .ensures) (c .before .before .before .before .where-is .ensures) (c .before .before .o .given .1)
-          ∙ at .loop .inv .2 staging d j t m k),
+      λ lent d j t m k. rw (add-one (at .loop .i), take-suc-set (at .loop .next) (at .loop .i) _ (omega arith), ← add-one (at .loop .i))
+          (gather-inside _ lent d _ _ j t m k 32 _ _ (c .before .before .before .before .before .before .loop-test .taken) _ (c .before .before .before .before .before .wrapping-add-u32 .ensures) (c .before .before .before .before .where-is .ensures) (c .before .before .o .given .1)
+          ∙ at .loop .inv .2 lent d j t m k),
     )
 
 same-length-2 : tie.Need-same-length-2 Inv-loop μ-loop
 same-length-2 c = search needs
 
 returns-3 : tie.Need-returns-3 Inv-loop μ-loop
-returns-3 c staging d j t m k =
+returns-3 c lent d j t m k =
     let at = c .before in
-    gather-end _ staging _ k 32 _ (at .loop .next) _ (omega arith) (omega arith)
-    ∙ at .loop .inv .2 staging d j t m k
-    ∙ told-so _ staging _ d _ j t m (at .before .before .s .given .1)
+    gather-end _ lent _ k 32 _ (at .loop .next) _ (omega arith) (omega arith)
+    ∙ at .loop .inv .2 lent d j t m k
+    ∙ told-so _ lent _ d _ j t m (at .before .before .s .given .1)
 
 pub gather-spec : {M : Type 1} → statement M
 gather-spec =

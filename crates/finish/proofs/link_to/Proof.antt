@@ -8,13 +8,13 @@ use Rattle.finish.proofs.link_to.Tie as tie
 
 returns : tie.Need-returns
 unfolding linkTo
-returns c base staging d w m = passed base staging _ _ _ (rw (not-true (c .before .before .args .on) (c .if1 .taken)))
+returns c base lent d w m = passed base lent _ _ _ (rw (not-true (c .before .before .args .on) (c .if1 .taken)))
 
 returns-2 : tie.Need-returns-2
 unfolding linkTo
-returns-2 c base staging d w m =
+returns-2 c base lent d w m =
     let a = c .before .before .before .args in
-    passed base staging _ _ _ (rw (not-false (a .on) (c .before .if1 .left), eq-eqb (a .to) (a .ch) (c .if2 .taken)))
+    passed base lent _ _ _ (rw (not-false (a .on) (c .before .if1 .left), eq-eqb (a .to) (a .ch) (c .if2 .taken)))
 
 dma-start-linked-requires : tie.Need-dma-start-linked-requires
 dma-start-linked-requires c κs = search needs
@@ -24,10 +24,10 @@ same-length c = search needs
 
 returns-3 : tie.Need-returns-3
 unfolding linkTo
-returns-3 c base staging d w m =
+returns-3 c base lent d w m =
     let a = c .before .before .before .before .before .before .before .before .args in
-    taken base staging _ _ _ (rw (not-false (a .on) (c .before .before .before .before .before .before .if1 .left), ne-eqb (a .to) (a .ch) (c .before .before .before .before .before .if2 .left)))
-    (c .before .before .dma-start-linked .ensures base staging d w m)
+    taken base lent _ _ _ (rw (not-false (a .on) (c .before .before .before .before .before .before .if1 .left), ne-eqb (a .to) (a .ch) (c .before .before .before .before .before .if2 .left)))
+    (c .before .before .dma-start-linked .ensures base lent d w m)
 
 pub link-to-spec : {M : Type 1} → statement M
 link-to-spec =

@@ -19,7 +19,7 @@ same-length c = search needs
 
 returns : tie.Need-returns
 unfolding loadNext
-returns c staging d m = c .before .before .replace .ensures _ staging d _ m ∙ c .before .before .before .before .before .before .before .gather .ensures staging d _ _ m _
+returns c lent d m = c .before .before .replace .ensures _ lent d _ m ∙ c .before .before .before .before .before .before .before .gather .ensures lent d _ _ m _
 
 pub load-next-spec : {M : Type 1} → statement M
 load-next-spec =

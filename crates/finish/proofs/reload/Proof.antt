@@ -18,9 +18,9 @@ same-length c = search needs
 
 returns : tie.Need-returns
 unfolding reload
-returns c staging d m =
+returns c lent d m =
     let a = c .before .before .before .before .before .before .before .before .before .args in
-    picked _ staging (has (a .t .csr) ESG) _ _ _ (sym (c .before .before .before .before .before .before .csr-has .ensures) ∙ c .before .before .before .before .before .if1 .taken) (c .before .before .load-next .ensures staging d m)
+    picked _ lent (has (a .t .csr) ESG) _ _ _ (sym (c .before .before .before .before .before .before .csr-has .ensures) ∙ c .before .before .before .before .before .if1 .taken) (c .before .before .load-next .ensures lent d m)
 
 wind-requires : tie.Need-wind-requires
 wind-requires c κs = search needs
@@ -30,8 +30,8 @@ same-length-2 c = search needs
 
 returns-2 : tie.Need-returns-2
 unfolding reload
-returns-2 c staging d m =
-    left-out _ staging _ _ _ _ (sym (c .before .before .before .before .before .before .csr-has .ensures) ∙ c .before .before .before .before .before .if1 .left) (c .before .before .wind .ensures _ staging d _ m)
+returns-2 c lent d m =
+    left-out _ lent _ _ _ _ (sym (c .before .before .before .before .before .before .csr-has .ensures) ∙ c .before .before .before .before .before .if1 .left) (c .before .before .wind .ensures _ lent d _ m)
 
 pub reload-spec : {M : Type 1} → statement M
 reload-spec =

@@ -35,8 +35,8 @@ same-length c = search needs
 
 returns : tie.Need-returns
 unfolding replaced storeWhole tcdOf
-returns c base staging d w m =
-    then base staging _ _ _ (c .raise-kick .ensures base staging d w _ _ m) (c .before .before .before .store-words .ensures base staging d w m)
+returns c base lent d w m =
+    then base lent _ _ _ (c .raise-kick .ensures base lent d w _ _ m) (c .before .before .before .store-words .ensures base lent d w m)
     ∙ rw (c .before .before .before .before .before .before .before .before .before .before .before .before .before .before .before .get8 .ensures, c .before .before .before .before .before .before .before .before .before .before .before .before .before .get82 .ensures, c .before .before .before .before .before .before .before .before .before .before .before .get83 .ensures, c .before .before .before .before .before .before .before .before .before .get84 .ensures, c .before .before .before .before .before .before .csr-has .ensures, c .before .before .before .before .before .before .before .get2 .ensures)
 
 pub replace-spec : {M : Type 1} → statement M

@@ -38,10 +38,10 @@ same-length : tie.Need-same-length
 same-length c = search needs
 
 returns : tie.Need-returns
-returns c base staging d w m =
+returns c base lent d w m =
     let a = c .before .before .before .before .before .before .before .before .before .before .before .before .before .before .before .args in
     rw (← wound-words (a .ch) (a .t) (c .before .before .before .before .before .before .before .before .before .before .before .before .modulo-add .ensures) (c .before .before .before .before .before .before .before .before .before .before .modulo-add2 .ensures) (c .before .before .before .before .before .before .ended .ensures) (c .before .before .before .before .before .before .before .before .before .word422 .ensures)
-    (c .before .before .before .before .before .before .before .before .word44 .ensures) (c .before .before .before .before .before .before .before .word4222 .ensures) (c .before .before .before .before .before .word4223 .ensures)) (c .before .before .store-words .ensures base staging d w m)
+    (c .before .before .before .before .before .before .before .before .word44 .ensures) (c .before .before .before .before .before .before .before .word4222 .ensures) (c .before .before .before .before .before .word4223 .ensures)) (c .before .before .store-words .ensures base lent d w m)
 
 pub wind-spec : {M : Type 1} → statement M
 wind-spec =

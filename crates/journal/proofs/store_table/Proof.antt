@@ -15,7 +15,7 @@ enum-told : tie.Need-enum-told
 enum-told c = search needs
 
 returns : tie.Need-returns
-returns c base staging d w m = stays base staging _ d w _ _ m (c .enum-told .given .1)
+returns c base lent d w m = stays base lent _ d w _ _ m (c .enum-told .given .1)
 
 get-width-requires : tie.Need-get-width-requires
 get-width-requires c κs = search needs
@@ -27,10 +27,10 @@ same-length : tie.Need-same-length
 same-length c = search needs
 
 returns-2 : tie.Need-returns-2
-returns-2 c base staging d w m =
+returns-2 c base lent d w m =
     let known = c .before .before .before .before .before .before .before in
     let start = known .before .before .before in
-    table-full base staging d _ w (start .args .journal .now) (start .args .table .now) m (known .s .given .1) _ _ _ (omega arith) (legal-table _ (start .pre .1)) (no-room _ _ (c .before .has-room .ensures) (c .if1 .taken))
+    table-full base lent d _ w (start .args .journal .now) (start .args .table .now) m (known .s .given .1) _ _ _ (omega arith) (legal-table _ (start .pre .1)) (no-room _ _ (c .before .has-room .ensures) (c .if1 .taken))
 
 add-end : tie.Need-add-end
 add-end c =
@@ -53,13 +53,13 @@ same-length-2 : tie.Need-same-length-2
 same-length-2 c = search needs
 
 returns-3 : tie.Need-returns-3
-returns-3 c base staging d w m =
+returns-3 c base lent d w m =
     let rec = c .before .before .before .before in
     let asked = rec .before .before in
     let get = asked .before .before .before in
     let known = get .before .before .before .before in
     let start = known .before .before .before in
-    table-done base staging d _ w (start .args .journal .now) (start .args .table .now) m (known .s .given .1) _ _ _ (omega arith) (legal-table _ (start .pre .1))
+    table-done base lent d _ w (start .args .journal .now) (start .args .table .now) m (known .s .given .1) _ _ _ (omega arith) (legal-table _ (start .pre .1))
     (room _ _ (asked .before .has-room .ensures) (asked .if1 .left)) (get .get-width .ensures) (c .put-width .ensures) (rec .put-record .ensures) refl
 
 pub store-table-spec : {M : Type 1} → statement M

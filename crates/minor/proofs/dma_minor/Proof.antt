@@ -3,6 +3,7 @@ use native.Mathlib.Nat.{pos-of-ne-zero}
 use native.Mathlib.Omega.{arith}
 use lib.ListN.{length}
 use borrow.Author.Needs.{needs}
+use Rattle.rules.specs.Carry.{lending}
 use Rattle.flow.specs.Worlds.{over}
 use Rattle.minor.proofs.Laws.{pass-idle, pass-not, pass-to}
 use Rattle.minor.proofs.dma_minor.Statement.{statement}
@@ -85,7 +86,7 @@ returns-3 c d =
     let source = rw (c .before .before .before .before .before .before .before .before .before .before .before .sources .ensures) at (c .before .before .before .before .before .before .before .before .before .before .moved-on .ensures) in
     let dest = rw (c .before .before .before .before .before .before .before .before .before .dests .ensures) at (c .before .before .before .before .before .before .before .before .moved-on2 .ensures) in
     pass-to _ _ d _ _ _ _ _ (a .ch) (c .before .before .before .before .before .before .before .before .before .before .before .before .before .before .before .before .before .before .before .before .before .before .before .before .before .before .before .before .read-tcd .ensures .0) (omega (arith, size, c .before .before .before .before .before .before .before .before .before .before .before .before .before .before .before .before .before .before .before .before .before .before .before .before .before .before .before .before .before .before .before .before .before .pre)) (c .before .before .before .before .before .before .before .before .before .before .before .before .before .before .before .before .before .before .before .before .before .before .before .before .before .before .before .count-of .ensures) (c .before .before .before .before .before .before .before .before .before .before .before .before .before .before .before .before .before .before .before .before .before .before .before .before .before .before .if1 .left) _ _ _ moved (c .before .before .before .before .before .before .before .before .before .before .before .before .before .s .given .1) source dest _ _ _ _ _
-    (rw (c .before .before .before .before .before .before .before .with-end2 .ensures) at (c .before .before .dma-minor-done .ensures (length (a .staging .now)) d))
+    (rw (c .before .before .before .before .before .before .before .with-end2 .ensures) at (c .before .before .dma-minor-done .ensures (lending (length (a .staging .now))) d))
 
 pub dma-minor-spec : {M : Type 1} → statement M
 dma-minor-spec =

@@ -24,7 +24,7 @@ abbrev μ-loop : tie.MeasureT-loop
 μ-loop window₀ base count from to journal₀ at end₀ k₀ window journal end k = count - k
 
 loop-holds : tie.Need-loop-holds Inv-loop μ-loop
-loop-holds c = (omega arith, refl, refl, λ staging d. rw sub-zero)
+loop-holds c = (omega arith, refl, refl, λ lent d. rw sub-zero)
 
 unit-at-requires : tie.Need-unit-at-requires Inv-loop μ-loop
 unit-at-requires c κs = search needs
@@ -79,10 +79,10 @@ same-length-4 : tie.Need-same-length-4 Inv-loop μ-loop
 same-length-4 c = search needs
 
 returns-2 : tie.Need-returns-2 Inv-loop μ-loop
-returns-2 c staging d =
+returns-2 c lent d =
     let at = c .before in
     let a = at .before .before .before .args in
-    units-end (a .base) staging d (a .count) (at .loop .k) 4 (a .from) (a .to) (at .loop .end) (at .loop .window) (at .loop .journal) (omega arith) (at .loop .inv .3 staging d)
+    units-end (a .base) lent d (a .count) (at .loop .k) 4 (a .from) (a .to) (at .loop .end) (at .loop .window) (at .loop .journal) (omega arith) (at .loop .inv .3 lent d)
 
 pub move-units4-spec : {M : Type 1} → statement M
 move-units4-spec =

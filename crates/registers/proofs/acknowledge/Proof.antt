@@ -1,4 +1,5 @@
 -- `registers::acknowledge` meets its contract. Assumes nothing.
+use Rattle.rules.specs.Carry.{lending}
 use Rattle.rules.specs.View.{view}
 use Rattle.registers.proofs.Laws.{used-fits, accepts, asked-after, heard-made}
 use Rattle.registers.specs.Asked.{asked}
@@ -28,7 +29,7 @@ ack-irq-requires c κs = search needs
 finish-requires : tie.Need-finish-requires
 unfolding Answers
 finish-requires c κs =
-    (omega arith, used-fits _ _ (c .before .before .before .before .bad-journal .ensures) (c .before .before .before .if1 .left), spared _ _ _ (c .before .before .before .before .before .before .args .d) (c .before .before .ack-irq .result .device) [] [] _ (c .before .before .before .before .before .before .good .0) (acknowledge-spares _ refl) refl (c .before .before .ack-irq .ensures 0 0 [] [] []))
+    (omega arith, used-fits _ _ (c .before .before .before .before .bad-journal .ensures) (c .before .before .before .if1 .left), spared _ _ _ (c .before .before .before .before .before .before .args .d) (c .before .before .ack-irq .result .device) [] [] _ (c .before .before .before .before .before .before .good .0) (acknowledge-spares _ refl) refl (c .before .before .ack-irq .ensures 0 (lending 0) [] [] []))
 
 heard-by-requires : tie.Need-heard-by-requires
 heard-by-requires c κs = search needs

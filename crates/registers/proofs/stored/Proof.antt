@@ -7,7 +7,7 @@ use Rattle.registers.proofs.stored.Tie as tie
 settle-requires : tie.Need-settle-requires
 settle-requires c κs =
     let p = c .before .before .pre in
-    record { act = p .act; entry = c .before .before .args .journal .now; fits = p .fits; goes = λ base staging w. does-on base staging _ _ w _ _ _ (p .does); spares = p .spares }
+    record { act = p .act; entry = c .before .before .args .journal .now; fits = p .fits; goes = λ base lent w. does-on base lent _ _ w _ _ _ (p .does); spares = p .spares }
 
 same-length : tie.Need-same-length
 same-length c = search needs

@@ -24,7 +24,7 @@ abbrev μ-loop : tie.MeasureT-loop
 μ-loop window base size count soff smod from staging₀ units s₀ len₀ left₀ staging s len left = left
 
 loop-holds : tie.Need-loop-holds Inv-loop μ-loop
-loop-holds c = (refl, omega arith, λ staging d j e. refl)
+loop-holds c = (refl, omega arith, λ lent d j e. refl)
 
 read-units4-requires : tie.Need-read-units4-requires Inv-loop μ-loop
 read-units4-requires c κs =
@@ -73,12 +73,12 @@ same-length-2 : tie.Need-same-length-2 Inv-loop μ-loop
 same-length-2 c = search needs
 
 returns-2 : tie.Need-returns-2 Inv-loop μ-loop
-returns-2 c staging d j e =
+returns-2 c lent d j e =
     let at = c .before in
     let a = at .before .before .before .args in
     let none : at .loop .left ≡ 0 = omega arith in
     let all : a .count * a .size ≡ at .loop .len = omega (arith, ap (λ (n : ℕ). n * a .size) none) in
-    read-sizes-end (a .base) staging d (a .window .now) j e (at .loop .left) (a .soff) (a .smod) (a .size) (at .loop .s) (take (at .loop .len) (at .loop .staging)) none (at .loop .inv .2 staging d j e) (ap (λ n. take n (at .loop .staging)) all)
+    read-sizes-end (a .base) lent d (a .window .now) j e (at .loop .left) (a .soff) (a .smod) (a .size) (at .loop .s) (take (at .loop .len) (at .loop .staging)) none (at .loop .inv .2 lent d j e) (ap (λ n. take n (at .loop .staging)) all)
 
 pub read-bursts-spec : {M : Type 1} → statement M
 read-bursts-spec =

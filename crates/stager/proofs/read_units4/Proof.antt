@@ -23,7 +23,7 @@ abbrev μ-loop : tie.MeasureT-loop
 μ-loop window base count from staging₀ len end₀ k₀ staging end k = count - k
 
 loop-holds : tie.Need-loop-holds Inv-loop μ-loop
-loop-holds c = (omega arith, refl, omega arith, λ staging d j e. rw sub-zero)
+loop-holds c = (omega arith, refl, omega arith, λ lent d j e. rw sub-zero)
 
 unit-at-requires : tie.Need-unit-at-requires Inv-loop μ-loop
 unit-at-requires c κs = search needs
@@ -35,11 +35,11 @@ same-length : tie.Need-same-length Inv-loop μ-loop
 same-length c = search needs
 
 returns : tie.Need-returns Inv-loop μ-loop
-returns c staging d j e =
+returns c lent d j e =
     let at = c .before .before .before .before .before .before .before in
     let a = at .before .before .before .args in
     let turn = reads-on (a .count) (at .loop .k) 4 (a .from) (take (at .loop .end) (at .loop .staging)) (c .before .before .before .before .before .before .loop-test .taken) (c .before .before .before .before .before .unit-at .ensures) in
-    none-read _ _ (read-off (a .base) (a .window .now) _ _ _ turn (at .loop .inv .3) _ (not-true _ (c .if1 .taken)) (c .before .before .before .read-unit4 .ensures) staging d j e)
+    none-read _ _ (read-off (a .base) (a .window .now) _ _ _ turn (at .loop .inv .3) _ (not-true _ (c .if1 .taken)) (c .before .before .before .read-unit4 .ensures) lent d j e)
 
 add-end : tie.Need-add-end Inv-loop μ-loop
 add-end c = search needs
@@ -61,11 +61,11 @@ same-length-2 : tie.Need-same-length-2 Inv-loop μ-loop
 same-length-2 c = search needs
 
 returns-2 : tie.Need-returns-2 Inv-loop μ-loop
-returns-2 c staging d j e =
+returns-2 c lent d j e =
     let at = c .before in
     let a = at .before .before .before .args in
     let all : a .len + a .count * 4 ≡ at .loop .end = omega arith in
-    reads-end (a .base) staging d (a .window .now) j e (a .count) (at .loop .k) 4 (a .from) (take (at .loop .end) (at .loop .staging)) (omega arith) (at .loop .inv .3 staging d j e) (ap (λ n. take n (at .loop .staging)) all)
+    reads-end (a .base) lent d (a .window .now) j e (a .count) (at .loop .k) 4 (a .from) (take (at .loop .end) (at .loop .staging)) (omega arith) (at .loop .inv .3 lent d j e) (ap (λ n. take n (at .loop .staging)) all)
 
 pub read-units4-spec : {M : Type 1} → statement M
 read-units4-spec =

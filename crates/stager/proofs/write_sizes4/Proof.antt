@@ -25,7 +25,7 @@ abbrev μ-loop : tie.MeasureT-loop
 μ-loop window₀ base count doff dmod to staging journal₀ at d₀ pos₀ end₀ left₀ window journal d pos end left = left
 
 loop-holds : tie.Need-loop-holds Inv-loop μ-loop
-loop-holds c = (search needs, refl, refl, omega arith, λ staging d. refl)
+loop-holds c = (search needs, refl, refl, omega arith, λ lent d. refl)
 
 get4-requires : tie.Need-get4-requires Inv-loop μ-loop
 get4-requires c κs = search needs
@@ -84,10 +84,10 @@ same-length-4 : tie.Need-same-length-4 Inv-loop μ-loop
 same-length-4 c = search needs
 
 returns-2 : tie.Need-returns-2 Inv-loop μ-loop
-returns-2 c staging dev =
+returns-2 c lent dev =
     let at = c .before in
     let a = at .before .before .before .before .args in
-    write-sizes-end (a .base) staging dev (at .loop .left) (a .doff) (a .dmod) 4 (at .loop .d) (a .staging .now) (at .loop .pos) (at .loop .end) (at .loop .window) (at .loop .journal) (omega arith) (at .loop .inv .4 staging dev)
+    write-sizes-end (a .base) lent dev (at .loop .left) (a .doff) (a .dmod) 4 (at .loop .d) (a .staging .now) (at .loop .pos) (at .loop .end) (at .loop .window) (at .loop .journal) (omega arith) (at .loop .inv .4 lent dev)
 
 pub write-sizes4-spec : {M : Type 1} → statement M
 write-sizes4-spec =

@@ -24,7 +24,7 @@ abbrev μ-loop : tie.MeasureT-loop
 μ-loop window₀ base count to staging pos journal₀ at end₀ k₀ window journal end k = count - k
 
 loop-holds : tie.Need-loop-holds Inv-loop μ-loop
-loop-holds c = (omega arith, refl, refl, λ staging d. rw sub-zero)
+loop-holds c = (omega arith, refl, refl, λ lent d. rw sub-zero)
 
 unit-at-requires : tie.Need-unit-at-requires Inv-loop μ-loop
 unit-at-requires c κs = search needs
@@ -88,10 +88,10 @@ same-length-4 : tie.Need-same-length-4 Inv-loop μ-loop
 same-length-4 c = search needs
 
 returns-2 : tie.Need-returns-2 Inv-loop μ-loop
-returns-2 c staging dev =
+returns-2 c lent dev =
     let at = c .before in
     let a = at .before .before .before .before .args in
-    writes-end (a .base) staging dev (a .count) (at .loop .k) 4 (a .to) (a .staging .now) (a .pos) (at .loop .end) (at .loop .window) (at .loop .journal) (omega arith) (at .loop .inv .3 staging dev)
+    writes-end (a .base) lent dev (a .count) (at .loop .k) 4 (a .to) (a .staging .now) (a .pos) (at .loop .end) (at .loop .window) (at .loop .journal) (omega arith) (at .loop .inv .3 lent dev)
 
 pub write-units4-spec : {M : Type 1} → statement M
 write-units4-spec =

@@ -2,8 +2,8 @@
 use Rattle.turns.proofs.Turning.{turns-stop, turns-refused, turns-again, turns-out}
 use borrow.Author.Needs.{needs}
 use lib.ListN.{length}
-use mathlib.Core.Path.{_≡_, refl}
-use Rattle.rules.specs.Carry.{go}
+use mathlib.Core.Path.{_≡_, refl, ap}
+use Rattle.rules.specs.Carry.{go, lending}
 use Rattle.rules.specs.Run.{turns, runTurns, runAll}
 use Rattle.rules.specs.State.{Device}
 use Rattle.turns.specs.Turns.{turning}
@@ -16,8 +16,8 @@ Inv-loop standing time pace window₀ base table₀ majors₀ pending₀ busy₀
     × (length staging ≡ length staging₀)
     × (length journal ≡ length journal₀)
     × ((d : Device) → d .standing ≡ standing
-    → go base (length staging₀) (turns time pace left) (turning d s window journal table majors pending busy)
-    ≡ go base (length staging₀) (runAll time pace) (turning d s₀ window₀ journal₀ table₀ majors₀ pending₀ busy₀))
+    → go base (lending (length staging₀)) (turns time pace left) (turning d s window journal table majors pending busy)
+    ≡ go base (lending (length staging₀)) (runAll time pace) (turning d s₀ window₀ journal₀ table₀ majors₀ pending₀ busy₀))
 
 abbrev μ-loop : tie.MeasureT-loop
 μ-loop standing time pace window₀ base table₀ majors₀ pending₀ busy₀ staging₀ journal₀ s₀ left₀ window table majors pending busy staging journal s left =
@@ -67,7 +67,7 @@ returns-2 : tie.Need-returns-2 Inv-loop μ-loop
 returns-2 c =
     let a = c .before .before .before .before .before .before .before .before .before .before .before .before .before .before .before .before .before .before .before .before .before .before .before .before .args in
     let l = c .before .before .before .before .before .before .before .before .before .before .before .before .before .before .before .before .before .before .before .before .loop in
-    turns-refused (a .base) _ (a .standing) (a .time) (a .pace) _ (l .s) _ _ _ _ _ _ _ (l .inv .3) (c .before .before .before .before .before .before .before .before .before .before .before .before .before .before .before .before .before .before .before .loop-test .taken) (c .before .before .before .before .before .before .before .before .before .before .before .before .before .before .before .before .before .if1 .left) _ (c .before .before .before .before .before .before .before .before .before .before .before .before .before .before .before .before .next-channel .ensures .0) _ (l .inv .1) _ _ _ _ _ _ _ (c .before .before .before .before .before .before .before .before .turn .ensures) (c .enum-told .given .1)
+    turns-refused (a .base) _ (a .standing) (a .time) (a .pace) _ (l .s) _ _ _ _ _ _ _ (l .inv .3) (c .before .before .before .before .before .before .before .before .before .before .before .before .before .before .before .before .before .before .before .loop-test .taken) (c .before .before .before .before .before .before .before .before .before .before .before .before .before .before .before .before .before .if1 .left) _ (c .before .before .before .before .before .before .before .before .before .before .before .before .before .before .before .before .next-channel .ensures .0) _ (ap lending (l .inv .1)) _ _ _ _ _ _ _ (c .before .before .before .before .before .before .before .before .turn .ensures) (c .enum-told .given .1)
 
 sub-left : tie.Need-sub-left Inv-loop μ-loop
 sub-left c = search needs
@@ -79,7 +79,7 @@ loop-again : tie.Need-loop-again Inv-loop μ-loop
 loop-again c =
     let a = c .before .before .before .before .before .before .before .before .before .before .before .before .before .before .before .before .before .before .before .before .before .before .before .before .before .args in
     let l = c .before .before .before .before .before .before .before .before .before .before .before .before .before .before .before .before .before .before .before .before .before .loop in
-    (search needs, search needs, search needs, turns-again (a .base) _ (a .standing) (a .time) (a .pace) _ (l .s) _ _ _ _ _ _ _ (l .inv .3) (c .before .before .before .before .before .before .before .before .before .before .before .before .before .before .before .before .before .before .before .before .loop-test .taken) (c .before .before .before .before .before .before .before .before .before .before .before .before .before .before .before .before .before .before .if1 .left) _ (c .before .before .before .before .before .before .before .before .before .before .before .before .before .before .before .before .before .next-channel .ensures .0) _ (l .inv .1) _ _ _ _ _ _ _ (c .before .before .before .before .before .before .before .before .before .turn .ensures) _ (c .before .r .given .1))
+    (search needs, search needs, search needs, turns-again (a .base) _ (a .standing) (a .time) (a .pace) _ (l .s) _ _ _ _ _ _ _ (l .inv .3) (c .before .before .before .before .before .before .before .before .before .before .before .before .before .before .before .before .before .before .before .before .loop-test .taken) (c .before .before .before .before .before .before .before .before .before .before .before .before .before .before .before .before .before .before .if1 .left) _ (c .before .before .before .before .before .before .before .before .before .before .before .before .before .before .before .before .before .next-channel .ensures .0) _ (ap lending (l .inv .1)) _ _ _ _ _ _ _ (c .before .before .before .before .before .before .before .before .before .turn .ensures) _ (c .before .r .given .1))
 
 same-length-7 : tie.Need-same-length-7 Inv-loop μ-loop
 same-length-7 c = search needs
