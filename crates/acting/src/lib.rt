@@ -8,18 +8,12 @@ use rules::Device;
 use rules::Refusal;
 use rules::Verdict;
 ghost use mathlib.Core.Path.{_≡_};
-ghost use Prim.Native.Nat.{_≤_, min};
+ghost use Prim.Native.Nat.{_≤_};
 ghost use lib.ListN.{length};
 ghost use Rattle.rules.specs.View.{view};
 ghost use Rattle.rules.specs.declared.Verdict.the-variants as Verdict;
 ghost use Rattle.closing.specs.Closes.{SparedOf};
 ghost use Rattle.acting.specs.Ending.{TakenBack, Ends, Began, Settles};
-
-fn least(a: usize, b: usize) -> usize
-    ensures { λ r. ⌜ r ≡ min a b ⌝ }
-{
-    if a < b { a } else { b }
-}
 
 // "Each gives its number and leaves window, device and used journal as at entry."
 pub fn refused(d: Device, why: Refusal, used: usize) -> Acted
@@ -38,7 +32,7 @@ fn taken_back(d: Device, why: Refusal, journal: &mut [u8], used: usize) -> Acted
     ensures { λ r. ⌜ TakenBack (view d) why used r (now (journal .entry)) (now (journal .exit)) ⌝ }
 {
     let len = journal.len();
-    journal::clear(journal, used, len);
+    words::clear(journal, used, len);
     refused(d, why, used)
 }
 
@@ -62,7 +56,7 @@ pub fn finish(
     let len = journal.len();
     Acted {
         verdict: Verdict::Accepted,
-        used: least(end, len),
+        used: words::least(end, len),
         device: e,
     }
 }
@@ -82,7 +76,7 @@ pub fn settle(d: Device, s: Reached, touched: Touched, journal: &mut [u8], used:
             touched,
             journal,
             used,
-            least(at, len),
+            words::least(at, len),
         ),
         Walk::Off(why, _) => taken_back(d, why, journal, used),
     }

@@ -13,7 +13,7 @@ use Rattle.rules.specs.Carry.{Machine, made, unmade}
 use Rattle.rules.specs.TakeBack.{kind, width, place, value, marked, ends, allSound, takeGroup, takeLast, takeEnd, takeBack}
 use Rattle.rules.proofs.BytesLaws.{getD-part, part-part}
 use Rattle.rules.proofs.Cut.{part-cut}
-use Rattle.journal.specs.Places.{holding}
+use Rattle.memory.specs.Places.{holding}
 use Rattle.scan.specs.Heads.{Scanned}
 use Rattle.scan.proofs.HeadLaws.{number-one}
 use Rattle.scan.proofs.Laws.{table-holding}

@@ -19,7 +19,7 @@ use Rattle.rules.specs.State.{Device}
 use Rattle.rules.proofs.BoolLaws.{and-left, and-right}
 use Rattle.rules.proofs.BytesLaws.{getD-part, part-part}
 use Rattle.rules.proofs.Cut.{part-cut}
-use Rattle.journal.specs.Places.{holding}
+use Rattle.memory.specs.Places.{holding}
 use Rattle.scan.proofs.HeadLaws.{number-one}
 use Rattle.scan.proofs.Laws.{sound-same, table-holding}
 use Rattle.back.specs.Standing.{machine, undoStore, undoField, UndoesStore}

@@ -5,7 +5,7 @@ use Prim.Native.Nat.{ℕ, zero, suc}
 use native.Mathlib.Omega.{arith}
 use Rattle.rules.specs.Act.{table}
 use Rattle.rules.specs.Carry.{legal}
-use Rattle.journal.specs.Widths.{TableWidth}
+use Rattle.words.specs.Widths.{TableWidth}
 use Rattle.scan.proofs.HeadLaws.{legal-most}
 
 pub table-wide : (w : ℕ) → legal table w ≡ true → TableWidth w

@@ -9,7 +9,7 @@ use Rattle.rules.specs.Fields.{withNumber}
 use Rattle.rules.specs.TakeBack.{allSound, decodeAll, takeBack}
 use Rattle.rules.specs.With.{withTable}
 use Rattle.rules.specs.State.{Device}
-use Rattle.journal.specs.Places.{holding}
+use Rattle.memory.specs.Places.{holding}
 use Rattle.back.specs.declared.Standing.{Standing}
 use Rattle.back.specs.declared.Standing.the-variants.{Group, Damaged}
 

@@ -18,7 +18,7 @@ ghost use Rattle.rules.specs.Carry.{legal, undo};
 ghost use Rattle.rules.specs.Fields.{fieldAt, fitsSome, withNumber};
 ghost use Rattle.rules.specs.TakeBack.{ends, kind, place, value, sound, allSound, decode, decodeAll};
 ghost use Rattle.rules.specs.declared.Verdict.the-variants as How;
-ghost use Rattle.journal.specs.Places.{holding};
+ghost use Rattle.memory.specs.Places.{holding};
 ghost use Rattle.back.specs.Standing.{Finds, machine, UndoesStore};
 
 // What stands last in the used journal: a sound group, where it starts and how many records it has before its end; or damage.
@@ -71,12 +71,12 @@ fn last_group(base: u32, window: &[u8], stands: &[u8]) -> Standing
 // ---- undoing it
 
 // The old value of a memory record is laid over the window again.
-fn undo_memory(window: &mut [u8], base: u32, place: u32, width: usize, old: u64)
+fn undo_memory(base: u32, window: &mut [u8], place: u32, width: usize, old: u64)
     requires { ⌜ (base ≤ place) × (place + width ≤ base + length (now window)) × (legal inWindow width ≡ true) ⌝ }
     ensures { λ _. ⌜ now (window .exit) ≡ splice (now (window .entry)) (place - base) (bytes width old) ⌝ }
 {
     let i = (place - base) as usize;
-    journal::put_width(window, i, width, old);
+    words::put_width(window, i, width, old);
 }
 
 // The record of a store undone, in the window or in the table; a field's record changes neither.
@@ -89,8 +89,8 @@ fn undo_store(base: u32, window: &mut [u8], table: &mut [u8; 2048], stands: &[u8
     let place = words::get4(stands, at + 4);
     let old = words::get8(stands, at + 8);
     match kind {
-        0 => undo_memory(window, base, place, width, old),
-        1 => journal::put_width(table, place as usize, width, old),
+        0 => undo_memory(base, window, place, width, old),
+        1 => words::put_width(table, place as usize, width, old),
         _ => (),
     }
 }
@@ -144,7 +144,7 @@ fn undo_group(
 // ---- the call
 
 // "Each gives its number and leaves window, device and used journal as at entry"; "after a refusal the one given".
-fn refused(why: Refusal, d: Device, used: usize) -> Acted
+fn refused(d: Device, why: Refusal, used: usize) -> Acted
     ensures { λ r. ⌜ r ≡ record { verdict = How.Refused why; used = used; device = d } ⌝ }
 {
     Acted {
@@ -171,19 +171,19 @@ pub fn take_back(d: Device, base: u32, window: &mut [u8], journal: &mut [u8], us
     ensures { λ r. ⌜ toldActed r (now (window .exit)) [] (now (journal .exit)) ≡ afterBack base (view d) (now (window .entry)) (now (journal .entry)) used ⌝ }
 {
     if asking::bad_window(base, window.len()) {
-        return refused(Refusal::Window, d, used);
+        return refused(d, Refusal::Window, used);
     }
     if asking::bad_journal(journal.len(), used) {
-        return refused(Refusal::Journal, d, used);
+        return refused(d, Refusal::Journal, used);
     }
     if used == 0 {
-        return refused(Refusal::NothingStands, d, used);
+        return refused(d, Refusal::NothingStands, used);
     }
     let stands = &journal[..used];
     let Standing::Group(from, count) = last_group(base, window, stands) else {
-        return refused(Refusal::Damaged, d, used);
+        return refused(d, Refusal::Damaged, used);
     };
     let e = undo_group(d, base, window, stands, from, count);
-    journal::clear(journal, from, used);
+    words::clear(journal, from, used);
     accepted(e, from)
 }

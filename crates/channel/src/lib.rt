@@ -5,6 +5,8 @@
 use flow::Flow;
 use flow::Step;
 use minor::Passed;
+use rules::DONE;
+use rules::LINE;
 use rules::Refusal;
 ghost use mathlib.Core.Path.{_≡_};
 ghost use Prim.Native.Nat.{_-_, _*_, _^_, _≤_, _<_};
@@ -68,8 +70,8 @@ pub fn csr_of(table: &[u8; 2048], ch: usize) -> u64
 // "START runs minor loops until majors changes or a pass answers no."
 pub fn start_loop(
     c: Flow,
-    window: &mut [u8],
     base: u32,
+    window: &mut [u8],
     table: &mut [u8; 2048],
     majors: &mut [u64; 64],
     ch: usize,
@@ -83,7 +85,7 @@ pub fn start_loop(
     let mut f = c;
     let mut left: usize = 0x8000;
     while 0 < left {
-        let Passed::Ran(s) = minor::dma_minor(f, window, base, table, majors, ch, staging, journal)
+        let Passed::Ran(s) = minor::dma_minor(f, base, window, table, majors, ch, staging, journal)
         else {
             return Step::Going(f);
         };
@@ -119,8 +121,8 @@ fn at_sum(sum: u64, s: Step) -> Line
 // above 2^20." Where a ring never ends, "refusal 11 ends it".
 pub fn line_loop(
     c: Flow,
-    window: &mut [u8],
     base: u32,
+    window: &mut [u8],
     table: &mut [u8; 2048],
     majors: &mut [u64; 64],
     staging: &mut [u8],
@@ -132,9 +134,9 @@ pub fn line_loop(
     let mut sum: u64 = 0;
     let mut left: usize = 0x400001;
     while 0 < left {
-        let bytes = nbytes_of(table, 35);
-        let r = minor::dma_minor(f, window, base, table, majors, 35, staging, journal);
-        let csr = csr_of(table, 35);
+        let bytes = nbytes_of(table, LINE);
+        let r = minor::dma_minor(f, base, window, table, majors, LINE, staging, journal);
+        let csr = csr_of(table, LINE);
         let Passed::Ran(s) = r else {
             return Line::Sum(sum, f);
         };
@@ -143,7 +145,7 @@ pub fn line_loop(
         };
         f = next;
         sum += bytes;
-        if words::has_bit(csr, 7) {
+        if words::has_bit(csr, DONE) {
             return Line::Sum(sum, f);
         }
         if 0x100000 < sum {
@@ -159,8 +161,8 @@ pub fn line_loop(
 pub fn request_loop(
     c: Flow,
     standing: u64,
-    window: &mut [u8],
     base: u32,
+    window: &mut [u8],
     table: &mut [u8; 2048],
     majors: &mut [u64; 64],
     pending: &mut [u32; 64],
@@ -178,7 +180,7 @@ pub fn request_loop(
             return Step::Going(f);
         }
         spend(pending, ch);
-        let Passed::Ran(s) = minor::dma_minor(f, window, base, table, majors, ch, staging, journal)
+        let Passed::Ran(s) = minor::dma_minor(f, base, window, table, majors, ch, staging, journal)
         else {
             return Step::Going(f);
         };

@@ -5,12 +5,12 @@ use rules::Device;
 use rules::Heard;
 ghost use mathlib.Core.Path.{_≡_};
 ghost use mathlib.Core.Bool.{cond};
-ghost use Prim.Native.Nat.{_+_, _*_, _^_, _≤_, _<_, max};
+ghost use Prim.Native.Nat.{_+_, _*_, _^_, _<_, max};
 ghost use lib.Dec.{eqb};
 ghost use lib.ListN.{length};
 ghost use mathlib.Core.List.{map};
 ghost use Rattle.rules.specs.View.{viewController, view};
-ghost use Rattle.rules.specs.Lines.{bitsFrom, withBitsFrom, ownedFrom, driven, loudest, relevel, answers, loudestAbove, above, hear, acknowledge};
+ghost use Rattle.rules.specs.Lines.{ownedFrom, driven, loudest, relevel, answers, loudestAbove, above, hear, acknowledge};
 ghost use Rattle.rules.specs.Calls.{setInputs, setPending};
 ghost use Rattle.rules.specs.Run.{requesting};
 ghost use Rattle.rules.specs.With.{withLines};
@@ -19,24 +19,6 @@ ghost use Rattle.flow.specs.Does.{Answers, Does};
 ghost use Rattle.controllers.specs.Levels.{sourcesOf, levelIn, controllersIn, highestIn, loudIn, found, saidBy, over};
 ghost use Rattle.controllers.specs.Waiting.{waitingIn};
 
-// ---- masks in parts
-
-// `n` bits of a mask from bit `i` on.
-pub fn bits_from(i: usize, n: usize, m: u64) -> u64
-    requires { ⌜ (i < 64) × (n < 64) ⌝ }
-    ensures { λ r. ⌜ (r ≡ bitsFrom i n m) × (r < 2 ^ n) ⌝ }
-{
-    (m >> i) % (1u64 << n)
-}
-
-// The mask with others there: those that it has go, the new ones come.
-pub fn with_bits_from(i: usize, n: usize, new: u64, m: u64) -> u64
-    requires { ⌜ (i < 64) × (n < 64) × (i + n ≤ 64) × (new < 2 ^ n) ⌝ }
-    ensures { λ r. ⌜ r ≡ withBitsFrom i n new m ⌝ }
-{
-    m - (bits_from(i, n, m) << i) + (new << i)
-}
-
 // ---- DMA-owned lines
 
 // The lines of controller `c`, with its DMA-owned bits from another mask of lines.
@@ -44,9 +26,9 @@ pub fn owned_from(c: usize, other: u64, lines: u64) -> u64
     ensures { λ r. ⌜ r ≡ ownedFrom c other lines ⌝ }
 {
     match c {
-        0 => with_bits_from(8, 16, bits_from(8, 16, other), lines),
-        1 => with_bits_from(8, 40, bits_from(8, 40, other), lines),
-        _ => with_bits_from(0, 1, bits_from(0, 1, other), lines),
+        0 => masks::with_bits_from(8, 16, masks::bits_from(8, 16, other), lines),
+        1 => masks::with_bits_from(8, 40, masks::bits_from(8, 40, other), lines),
+        _ => masks::with_bits_from(0, 1, masks::bits_from(0, 1, other), lines),
     }
 }
 
@@ -62,9 +44,9 @@ pub fn driven(c: usize, int: u64, lines: u64) -> u64
     ensures { λ r. ⌜ r ≡ driven c int lines ⌝ }
 {
     match c {
-        0 => with_bits_from(8, 16, bits_from(0, 16, int), lines),
-        1 => with_bits_from(8, 40, bits_from(16, 40, int), lines),
-        _ => with_bits_from(0, 1, any(bits_from(56, 8, int)), lines),
+        0 => masks::with_bits_from(8, 16, masks::bits_from(0, 16, int), lines),
+        1 => masks::with_bits_from(8, 40, masks::bits_from(16, 40, int), lines),
+        _ => masks::with_bits_from(0, 1, any(masks::bits_from(56, 8, int)), lines),
     }
 }
 

@@ -23,9 +23,9 @@ use Rattle.flow.specs.declared.Step.{Step}
 use Rattle.flow.specs.declared.Walk.the-variants.{On}
 use Rattle.flow.proofs.DoesLaws.{does-change}
 use Rattle.flow.proofs.Laws.{then, fetched}
-use Rattle.intc.proofs.ReadLaws.{never}
+use Rattle.masks.proofs.Ranges.{never}
 use Rattle.dma.specs.Started.{startsIn}
-use Rattle.journal.specs.Widths.{TableWidth}
+use Rattle.words.specs.Widths.{TableWidth}
 use Rattle.dma_read.proofs.Laws.{small, width}
 use native.Mathlib.Omega.{arith}
 

@@ -2,6 +2,7 @@
 use dma_commands::Reached;
 use flow::Walk;
 use rules::Device;
+use rules::START;
 ghost use mathlib.Core.Path.{_≡_};
 ghost use mathlib.Core.Bool.{false, not};
 ghost use Prim.Native.Nat.{ℕ, _+_, _≤_, _<_};
@@ -20,10 +21,10 @@ fn byte_known(off: u32) -> bool
     requires { ⌜ inTable off ≡ false ⌝ }
     ensures { λ r. ⌜ ((v : ℕ) → r ≡ not (isNone (dmaWrite off 1 v))) ⌝ }
 {
-    if intc::within(0x18, 0x1F, off) {
+    if masks::within(0x18, 0x1F, off) {
         return true;
     }
-    intc::within(0x100, 0x13F, off)
+    masks::within(0x100, 0x13F, off)
 }
 
 fn word_known(off: u32) -> bool
@@ -50,7 +51,7 @@ fn word_known(off: u32) -> bool
 pub fn edma_known(off: u32, size: u32) -> bool
     ensures { λ r. ⌜ ((v : ℕ) → r ≡ not (isNone (dmaWrite off size v))) ⌝ }
 {
-    if intc::within(0x1000, 0x17FF, off) {
+    if masks::within(0x1000, 0x17FF, off) {
         return true;
     }
     match size {
@@ -72,7 +73,7 @@ fn starts(table: &[u8; 2048], off: usize, size: usize) -> bool
     if off + size <= last {
         return false;
     }
-    words::has_bit(b, 0)
+    words::has_bit(b, START)
 }
 
 // "A guest descriptor write is one of its size"; where it starts its channel, it "sets that KICK bit".
@@ -134,19 +135,19 @@ fn masks_written(d: Device, off: u32, v: u32) -> Device
             e
         }
         0x08 => {
-            e.erq = intc::with_bytes_in(0, 4, v, d.erq);
+            e.erq = masks::with_bytes_in(0, 4, v, d.erq);
             e
         }
         0x0C => {
-            e.erq = intc::with_bytes_in(4, 4, v, d.erq);
+            e.erq = masks::with_bytes_in(4, 4, v, d.erq);
             e
         }
         0x10 => {
-            e.eei = intc::with_bytes_in(0, 4, v, d.eei);
+            e.eei = masks::with_bytes_in(0, 4, v, d.eei);
             e
         }
         0x14 => {
-            e.eei = intc::with_bytes_in(4, 4, v, d.eei);
+            e.eei = masks::with_bytes_in(4, 4, v, d.eei);
             e
         }
         _ => flags_written(d, off, v),
@@ -182,7 +183,7 @@ fn byte_written(d: Device, off: u32, v: u32, journal: &mut [u8], at: usize) -> R
         walk: Walk::On(at),
         device: d,
     };
-    if intc::within(0x18, 0x1F, off) {
+    if masks::within(0x18, 0x1F, off) {
         return dma_commands::command(s, off - 0x18, v, journal);
     }
     s
@@ -196,7 +197,7 @@ pub fn edma_write(d: Device, off: u32, size: u32, v: u32, journal: &mut [u8], at
     requires { ⌜ Fair off size ⌝ }
     ensures { λ r. ⌜ Reaches (orNothing (dmaWrite off size v)) (view d) at r (now (journal .entry)) (now (journal .exit)) ⌝ }
 {
-    if intc::within(0x1000, 0x17FF, off) {
+    if masks::within(0x1000, 0x17FF, off) {
         return tcd_write(d, off - 0x1000, size, v, journal, at);
     }
     match size {

@@ -2,7 +2,9 @@
 use flow::Flow;
 use flow::Step;
 use flow::Walk;
+use rules::DONE;
 use rules::Device;
+use rules::START;
 ghost use mathlib.Core.List.{List};
 ghost use mathlib.Core.Path.{_≡_};
 ghost use Prim.Native.Nat.{ℕ, _<_, _≤_};
@@ -26,7 +28,7 @@ pub struct Reached {
 fn set_requests(d: Device, v: u32) -> Device
     ensures { λ r. ⌜ Does (setRequests v) (view d) (view r) ⌝ }
 {
-    let m = intc::named(v);
+    let m = masks::named(v);
     let mut e = d;
     e.erq = d.erq | m;
     e.kick = d.kick | (m & controllers::requesting(e));
@@ -38,7 +40,7 @@ fn scalar_command(d: Device, k: u32, v: u32) -> Device
     requires { ⌜ k < 6 ⌝ }
     ensures { λ r. ⌜ Does (command k v) (view d) (view r) ⌝ }
 {
-    let m = intc::named(v);
+    let m = masks::named(v);
     let mut e = d;
     match k {
         0 => set_requests(d, v),
@@ -72,9 +74,9 @@ fn flagged(start: bool, b: u64) -> u64
     ensures { λ r. ⌜ r ≡ flagged start b ⌝ }
 {
     if start {
-        return words::gain_bit(b, 0);
+        return words::gain_bit(b, START);
     }
-    words::lose_bit(b, 7)
+    words::lose_bit(b, DONE)
 }
 
 // "A START or DONE bit is one of width 1 at 0x1F": of channel `ch`, where it is `on`.
@@ -187,7 +189,7 @@ pub fn with_kick(s: Reached, on: bool, m: u64) -> Reached
 fn set_starts(d: Device, at: usize, v: u32, journal: &mut [u8]) -> Reached
     ensures { λ r. ⌜ Reaches (setStarts v) (view d) at r (now (journal .entry)) (now (journal .exit)) ⌝ }
 {
-    let m = intc::named(v);
+    let m = masks::named(v);
     with_kick(flag_channels(d, at, true, m, journal), true, m)
 }
 
@@ -195,7 +197,7 @@ fn set_starts(d: Device, at: usize, v: u32, journal: &mut [u8]) -> Reached
 fn clear_dones(d: Device, at: usize, v: u32, journal: &mut [u8]) -> Reached
     ensures { λ r. ⌜ Reaches (clearDones v) (view d) at r (now (journal .entry)) (now (journal .exit)) ⌝ }
 {
-    flag_channels(d, at, false, intc::named(v), journal)
+    flag_channels(d, at, false, masks::named(v), journal)
 }
 
 // ---- any command

@@ -12,7 +12,7 @@ use Rattle.rules.specs.Bytes.{number, part}
 use Rattle.rules.specs.Calls.{badSize}
 use Rattle.rules.specs.Carry.{legal}
 use Rattle.rules.specs.Registers.{within, inTable, lookUp, dmaCells, dmaRead}
-use Rattle.intc.proofs.ReadLaws.{never}
+use Rattle.masks.proofs.Ranges.{never}
 
 -- a size that is neither 1 nor 2 is 4
 pub four : (size : ℕ) → badSize size ≡ false → (size ≡ 1 → ⊥) → (size ≡ 2 → ⊥) → size ≡ 4

@@ -29,7 +29,7 @@ fn read_byte(d: Device, off: u32) -> Cell
     requires { ⌜ inTable off ≡ false ⌝ }
     ensures { λ r. ⌜ reads r ≡ dmaRead (view d) off 1 ⌝ }
 {
-    if intc::within(0x18, 0x1F, off) {
+    if masks::within(0x18, 0x1F, off) {
         return Cell::Value(0);
     }
     Cell::Nothing
@@ -43,14 +43,14 @@ fn read_word(d: Device, off: u32) -> Cell
     match off {
         0x00 => Cell::Value(d.cr),
         0x04 => Cell::Value(0),
-        0x08 => Cell::Value(intc::bytes_in(0, 4, d.erq)),
-        0x0C => Cell::Value(intc::bytes_in(4, 4, d.erq)),
-        0x10 => Cell::Value(intc::bytes_in(0, 4, d.eei)),
-        0x14 => Cell::Value(intc::bytes_in(4, 4, d.eei)),
-        0x20 => Cell::Value(intc::bytes_in(0, 4, d.int)),
-        0x24 => Cell::Value(intc::bytes_in(4, 4, d.int)),
-        0x28 => Cell::Value(intc::bytes_in(0, 4, d.err)),
-        0x2C => Cell::Value(intc::bytes_in(4, 4, d.err)),
+        0x08 => Cell::Value(masks::bytes_in(0, 4, d.erq)),
+        0x0C => Cell::Value(masks::bytes_in(4, 4, d.erq)),
+        0x10 => Cell::Value(masks::bytes_in(0, 4, d.eei)),
+        0x14 => Cell::Value(masks::bytes_in(4, 4, d.eei)),
+        0x20 => Cell::Value(masks::bytes_in(0, 4, d.int)),
+        0x24 => Cell::Value(masks::bytes_in(4, 4, d.int)),
+        0x28 => Cell::Value(masks::bytes_in(0, 4, d.err)),
+        0x2C => Cell::Value(masks::bytes_in(4, 4, d.err)),
         0x30 => Cell::Value(0),
         0x34 => Cell::Value(0),
         _ => Cell::Nothing,
@@ -62,7 +62,7 @@ pub fn edma_read(d: Device, off: u32, size: u32) -> Cell
     requires { ⌜ Fair off size ⌝ }
     ensures { λ r. ⌜ reads r ≡ dmaRead (view d) off size ⌝ }
 {
-    if intc::within(0x1000, 0x17FF, off) {
+    if masks::within(0x1000, 0x17FF, off) {
         return Cell::Value(tcd_read(d, off - 0x1000, size));
     }
     match size {

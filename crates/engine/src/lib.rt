@@ -14,17 +14,11 @@ use turns::Course;
 use turns::Turned;
 ghost use mathlib.Core.Bool.{true};
 ghost use mathlib.Core.Path.{_≡_};
-ghost use Prim.Native.Nat.{_+_, _^_, _≤_, min};
+ghost use Prim.Native.Nat.{_+_, _^_, _≤_};
 ghost use lib.ListN.{length};
 ghost use Rattle.rules.specs.View.{view};
 ghost use Rattle.rules.specs.Calls.{verdictNumber, wrong, run as runCall, service as serviceCall, toldActed, after};
 ghost use Rattle.engine.specs.Runs.{courseOf, verdictOf, held, courseFrom, withCourse, RunsAll, Offers, Reaches, Carries, Sounds, Runs};
-
-fn least(a: usize, b: usize) -> usize
-    ensures { λ r. ⌜ r ≡ min a b ⌝ }
-{
-    if a < b { a } else { b }
-}
 
 // Refusals 5, 6 and 7, in that order.
 fn tested(time: u64, pace: u64, base: u32, window: usize, journal: usize, used: usize) -> Verdict
@@ -168,8 +162,8 @@ fn run_all(
         standing,
         time,
         pace,
-        window,
         base,
+        window,
         table,
         majors,
         pending,
@@ -178,12 +172,12 @@ fn run_all(
         journal,
     );
     let len = staging.len();
-    journal::clear(staging, 0, len);
+    words::clear(staging, 0, len);
     let course = course_of(s);
     let c = course.flow;
     Ran {
         course,
-        at: least(c.at, journal.len()),
+        at: words::least(c.at, journal.len()),
         verdict: verdict_of(s),
     }
 }
@@ -281,7 +275,7 @@ fn carried(
     let at = r.at;
     let v = r.verdict;
     let Verdict::Accepted = v else {
-        journal::roll_back(window, base, journal, used, at);
+        journal::roll_back(base, window, journal, used, at);
         return Done {
             verdict: v,
             used,
@@ -309,7 +303,7 @@ fn carried(
         used,
         at,
     ) else {
-        journal::roll_back(window, base, journal, used, at);
+        journal::roll_back(base, window, journal, used, at);
         return Done {
             verdict: Verdict::Refused(Refusal::Room),
             used,
@@ -318,7 +312,7 @@ fn carried(
     };
     Done {
         verdict: Verdict::Accepted,
-        used: least(end, journal.len()),
+        used: words::least(end, journal.len()),
         small: settled,
     }
 }

@@ -73,7 +73,7 @@ fn put_back(image: &mut [u8], r: Acted) -> u64
 pub extern "C" fn kp_fresh(image: &mut [u8], ignore_masks: u32) -> u64
     ensures { λ r. ⌜ left r (now (image .exit)) [] [] [] ≡ freshened (now (image .entry)) «ignore_masks» ⌝ }
 {
-    if image.len() != 8720 {
+    if image.len() != image::BYTES {
         return packed(255, 0, 0, 0);
     }
     if 1 < ignore_masks {

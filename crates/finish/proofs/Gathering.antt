@@ -17,10 +17,10 @@ use Rattle.rules.proofs.Steps.{fetch-inside, fetch-outside}
 use Rattle.flow.specs.Worlds.{world, told, on}
 use Rattle.flow.specs.declared.Flow.{Flow}
 use Rattle.flow.specs.declared.Step.the-variants.{Going, Refused}
-use Rattle.journal.specs.Places.{placeOf}
-use Rattle.journal.specs.declared.Place.{Place}
-use Rattle.journal.specs.declared.Place.the-variants.{At, Outside}
-use Rattle.journal.proofs.Laws.{not-there, at-there, at-index}
+use Rattle.memory.specs.Places.{placeOf}
+use Rattle.memory.specs.declared.Place.{Place}
+use Rattle.memory.specs.declared.Place.the-variants.{At, Outside}
+use Rattle.memory.proofs.Laws.{not-there, at-there, at-index}
 
 -- the byte number i of n, at address `from` + i
 module _ (base : ℕ) (lent : Lent) (d : Device) (c : Flow) (w j t m : List ℕ) {A : Type 0} (k : List ℕ → Act A) (n i from : ℕ) (more : i < n)

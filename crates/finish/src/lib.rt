@@ -3,8 +3,16 @@
 // Quoted words are document 01's; names are those of the Rust, where it has them.
 use flow::Flow;
 use flow::Step;
-use journal::Place;
+use memory::Place;
+use rules::ACTIVE;
+use rules::DONE;
+use rules::DREQ;
+use rules::ESG;
+use rules::INTHALF;
+use rules::INTMAJOR;
+use rules::MAJORELINK;
 use rules::Refusal;
+use rules::START;
 use rules::Tcd;
 ghost use mathlib.Core.List.{[], _++_};
 ghost use mathlib.Core.Path.{_≡_};
@@ -17,22 +25,6 @@ ghost use Rattle.rules.specs.Words.{has, gain, lose, countOf};
 ghost use Rattle.flow.specs.Worlds.{OnTable, OnScalars, OnMajors, OnWindow, OnRest, Gives};
 
 // ---- the bits of `csr`
-
-const START: usize = 0;
-
-const INTMAJOR: usize = 1;
-
-const INTHALF: usize = 2;
-
-const DREQ: usize = 3;
-
-const ESG: usize = 4;
-
-const MAJORELINK: usize = 5;
-
-const ACTIVE: usize = 6;
-
-const DONE: usize = 7;
 
 fn csr_has(csr: u16, bit: usize) -> bool
     requires { ⌜ bit < 16 ⌝ }
@@ -226,7 +218,7 @@ fn link_to(
 // ---- the major end
 
 // "32 bytes from `dlast`": "every address sum wraps at 2^32".
-fn gather(s: Step, window: &[u8], base: u32, from: u32, next: &mut [u8]) -> Step
+fn gather(s: Step, base: u32, window: &[u8], from: u32, next: &mut [u8]) -> Step
     requires { ⌜ length (now next) ≡ 32 ⌝ }
     ensures { λ r. ⌜ Gives (gather 32 from []) base s r (now (next .exit)) (now (window .entry)) ⌝ }
 {
@@ -236,7 +228,7 @@ fn gather(s: Step, window: &[u8], base: u32, from: u32, next: &mut [u8]) -> Step
     let mut i: usize = 0;
     while i < 32 {
         let a = std::num::wrapping_add_u32(from, i as u32);
-        let Place::At(o) = journal::where_is(window, base, a, 1) else {
+        let Place::At(o) = memory::where_is(base, window, a, 1) else {
             return Step::Refused(Refusal::Outside, c);
         };
         next[i] = window[o];
@@ -261,8 +253,8 @@ fn replace(s: Step, table: &mut [u8; 2048], ch: usize, next: &[u8; 32], journal:
 
 fn load_next(
     s: Step,
-    window: &[u8],
     base: u32,
+    window: &[u8],
     table: &mut [u8; 2048],
     ch: usize,
     from: u32,
@@ -272,7 +264,7 @@ fn load_next(
     ensures { λ r. ⌜ OnWindow (loadNext ch from) base s r (now (window .entry)) (now (journal .entry)) (now (journal .exit)) (now (table .entry)) (now (table .exit)) ⌝ }
 {
     let mut next = [0u8; 32];
-    let s1 = gather(s, window, base, from, &mut next);
+    let s1 = gather(s, base, window, from, &mut next);
     replace(s1, table, ch, &next, journal)
 }
 
@@ -300,8 +292,8 @@ fn wind(s: Step, table: &mut [u8; 2048], ch: usize, t: Tcd, journal: &mut [u8]) 
 // "With ESG, 32 bytes from `dlast` replace the descriptor"; without, it is wound back: `slast` is never added after ESG.
 fn reload(
     s: Step,
-    window: &[u8],
     base: u32,
+    window: &[u8],
     table: &mut [u8; 2048],
     ch: usize,
     t: Tcd,
@@ -311,7 +303,7 @@ fn reload(
     ensures { λ r. ⌜ OnWindow (reload ch t) base s r (now (window .entry)) (now (journal .entry)) (now (journal .exit)) (now (table .entry)) (now (table .exit)) ⌝ }
 {
     if csr_has(t.csr, ESG) {
-        return load_next(s, window, base, table, ch, t.dlast, journal);
+        return load_next(s, base, window, table, ch, t.dlast, journal);
     }
     wind(s, table, ch, t, journal)
 }
@@ -328,8 +320,8 @@ fn flags(s: Step, ch: usize, csr: u16) -> Step
 // "Major end: majors + 1", the descriptor, then "INTMAJOR, DREQ and the major link follow, all from the old `csr`".
 pub fn dma_major_done(
     s: Step,
-    window: &[u8],
     base: u32,
+    window: &[u8],
     table: &mut [u8; 2048],
     majors: &mut [u64; 64],
     ch: usize,
@@ -341,7 +333,7 @@ pub fn dma_major_done(
     let t = read_tcd(table, ch);
     let csr = t.csr;
     let s1 = count_major(s, majors, ch);
-    let s2 = reload(s1, window, base, table, ch, t, journal);
+    let s2 = reload(s1, base, window, table, ch, t, journal);
     let s3 = flags(s2, ch, csr);
     link_to(
         s3,
@@ -400,8 +392,8 @@ fn minor_stores(
 // "New count 0 leads to the major end; otherwise a count link to another channel sets that START and KICK bit."
 pub fn dma_minor_done(
     s: Step,
-    window: &[u8],
     base: u32,
+    window: &[u8],
     table: &mut [u8; 2048],
     majors: &mut [u64; 64],
     ch: usize,
@@ -419,7 +411,7 @@ pub fn dma_minor_done(
     let s1 = minor_stores(s, table, ch, saddr, daddr, citer, csr, journal);
     let s2 = raise_int(s1, halfway(t, n), ch);
     if n == 0 {
-        return dma_major_done(s2, window, base, table, majors, ch, journal);
+        return dma_major_done(s2, base, window, table, majors, ch, journal);
     }
     link_to(
         s2,

@@ -11,6 +11,9 @@ ghost use Rattle.rules.specs.View.{viewController, view};
 ghost use Rattle.image.specs.Image.{laid, flagged, imageOf, numberIn, numbersIn, controllerIn, deviceIn, alike, isImage};
 ghost use Rattle.image.specs.Parts.{channelsOf, levelsOf, takenOf};
 
+// How long an image is.
+pub const BYTES: usize = 8720;
+
 // ---- laying down: numbers of 64, 32 and 8 bits, each in 8 bytes, from place `from` on
 
 fn put_wides(image: &mut [u8], from: usize, v: &[u64])
@@ -324,7 +327,7 @@ pub fn get_device(image: &[u8]) -> Device
 pub fn is_image(image: &[u8]) -> bool
     ensures { λ r. ⌜ r ≡ isImage (now (image .entry)) ⌝ }
 {
-    if image.len() != 8720 {
+    if image.len() != BYTES {
         return false;
     }
     let d = get_device(image);

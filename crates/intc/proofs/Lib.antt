@@ -1,3 +1,2 @@
-pub mod RegisterBytes
 pub mod ReadLaws
 pub mod WriteLaws

@@ -1,26 +1,15 @@
 -- Controller registers, read: the cases of `controllerRead`. Assumes nothing.
-use mathlib.Core.Bool.{Bool, true, false, _&&_}
+use mathlib.Core.Bool.{true, false}
 use mathlib.Core.Option.{none, some}
-use mathlib.Core.Path.{_≡_, refl}
-use Prim.Native.Nat.{ℕ, _-_, _≤_}
-use borrow.Author.Tests.{leb-true, ne-eqb}
-use lib.Dec.{leb}
+use mathlib.Core.Path.{_≡_}
+use Prim.Native.Nat.{ℕ, _-_}
+use borrow.Author.Tests.{ne-eqb}
 use lib.ListN.{getD}
 use Rattle.rules.specs.State.{Controller}
 use Rattle.rules.specs.Registers.{within, lookUp, controllerCells, controllerRead}
-use Rattle.rules.proofs.BoolLaws.{and-left, and-right}
-
--- ---- offsets
-
-pub within-true : (lo hi off : ℕ) → within lo hi off ≡ true → (lo ≤ off) × (off ≤ hi)
-unfolding within
-within-true lo hi off e = (leb-true lo off (and-left (leb lo off) (leb off hi) e), leb-true off hi (and-right (leb lo off) (leb off hi) e))
+use Rattle.masks.proofs.Ranges.{never}
 
 -- ---- reads
-
-pub never : (b : Bool) → b && false ≡ false
-never true = refl
-never false = refl
 
 module _ (k : Controller) (off : ℕ) where
   -- no cell is a byte

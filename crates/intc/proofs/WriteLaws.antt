@@ -25,7 +25,7 @@ use Rattle.rules.proofs.ViewLaws.{map-set, noHeld, controller-viewed}
 use Rattle.flow.specs.Does.{Does}
 use Rattle.flow.proofs.DoesLaws.{answers-done, answers-bind, does-put, does-cut, does-change}
 use Rattle.intc.specs.Writes.{writeTo, commandAt, InController, WrittenIn, Written}
-use Rattle.intc.proofs.ReadLaws.{never}
+use Rattle.masks.proofs.Ranges.{never}
 
 -- ---- acts on one controller
 

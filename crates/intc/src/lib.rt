@@ -7,36 +7,10 @@ ghost use Prim.Native.Nat.{_+_, _≤_, _<_};
 ghost use lib.ListN.{set};
 ghost use Rattle.rules.specs.View.{viewController, view};
 ghost use Rattle.rules.specs.Bytes.{bytes, splice};
-ghost use Rattle.rules.specs.Registers.{within, bytesIn, withBytesIn, named, controllerRead, controllerWrite};
+ghost use Rattle.rules.specs.Registers.{within, named, controllerRead, controllerWrite};
 ghost use Rattle.rules.specs.With.{withLevels};
 ghost use Rattle.intc.specs.Cells.{reads};
 ghost use Rattle.intc.specs.Writes.{InWord, writeTo, commandAt, WrittenIn, Written};
-
-// An offset lies between two, both ends included.
-pub fn within(lo: u32, hi: u32, off: u32) -> bool
-    ensures { λ r. ⌜ r ≡ within lo hi off ⌝ }
-{
-    lo <= off && off <= hi
-}
-
-// ---- a 64-bit register as eight bytes
-
-// `size` bytes of it from byte `i` on.
-pub fn bytes_in(i: usize, size: usize, register: u64) -> u32
-    requires { ⌜ (i + size ≤ 8) × (size ≤ 4) × (0 < size) ⌝ }
-    ensures { λ r. ⌜ r ≡ bytesIn i size register ⌝ }
-{
-    controllers::bits_from(8 * (8 - (i + size)), 8 * size, register) as u32
-}
-
-// The register with `size` bytes of `v` there: a merge.
-pub fn with_bytes_in(i: usize, size: usize, v: u32, register: u64) -> u64
-    requires { ⌜ (i + size ≤ 8) × (size ≤ 4) × (0 < size) ⌝ }
-    ensures { λ r. ⌜ r ≡ withBytesIn i size v register ⌝ }
-{
-    let new = controllers::bits_from(0, 8 * size, v as u64);
-    controllers::with_bits_from(8 * (8 - (i + size)), 8 * size, new, register)
-}
 
 // ---- reads
 
@@ -57,11 +31,11 @@ fn wide(x: u8) -> u32
 fn read_byte(k: Controller, off: u32) -> Cell
     ensures { λ r. ⌜ reads r ≡ controllerRead (viewController k) off 1 ⌝ }
 {
-    if within(0x40, 0x7F, off) {
+    if masks::within(0x40, 0x7F, off) {
         let levels = k.levels;
         return Cell::Value(wide(levels[(off - 0x40) as usize]));
     }
-    if within(0x1C, 0x1F, off) {
+    if masks::within(0x1C, 0x1F, off) {
         return Cell::Value(0);
     }
     Cell::Nothing
@@ -82,12 +56,12 @@ fn read_word(k: Controller, off: u32) -> Cell
     ensures { λ r. ⌜ reads r ≡ controllerRead (viewController k) off 4 ⌝ }
 {
     match off {
-        0x00 => Cell::Value(bytes_in(0, 4, k.lines | k.forced)),
-        0x04 => Cell::Value(bytes_in(4, 4, k.lines | k.forced)),
-        0x08 => Cell::Value(bytes_in(0, 4, k.masks)),
-        0x0C => Cell::Value(bytes_in(4, 4, k.masks)),
-        0x10 => Cell::Value(bytes_in(0, 4, k.forced)),
-        0x14 => Cell::Value(bytes_in(4, 4, k.forced)),
+        0x00 => Cell::Value(masks::bytes_in(0, 4, k.lines | k.forced)),
+        0x04 => Cell::Value(masks::bytes_in(4, 4, k.lines | k.forced)),
+        0x08 => Cell::Value(masks::bytes_in(0, 4, k.masks)),
+        0x0C => Cell::Value(masks::bytes_in(4, 4, k.masks)),
+        0x10 => Cell::Value(masks::bytes_in(0, 4, k.forced)),
+        0x14 => Cell::Value(masks::bytes_in(4, 4, k.forced)),
         _ => Cell::Nothing,
     }
 }
@@ -110,16 +84,6 @@ pub fn intc_read(k: Controller, off: u32, size: u32) -> Cell
 pub struct Kept {
     pub known: bool,
     pub controller: Controller,
-}
-
-// The sources that SIMR and CIMR name: bit 6, all; else bits 5..0.
-pub fn named(v: u32) -> u64
-    ensures { λ r. ⌜ r ≡ named v ⌝ }
-{
-    if words::has_bit(v as u64, 6) {
-        return 0xFFFFFFFFFFFFFFFF;
-    }
-    words::gain_bit(0, (v % 64) as usize)
 }
 
 // Source `s` with another level byte; there is none past 63.
@@ -176,7 +140,7 @@ fn byte_written(k: Controller, off: u32, v: u32) -> Kept
     match off {
         0x1C => {
             let mut e = k;
-            e.masks = k.masks | named(v);
+            e.masks = k.masks | masks::named(v);
             Kept {
                 known: true,
                 controller: e,
@@ -184,7 +148,7 @@ fn byte_written(k: Controller, off: u32, v: u32) -> Kept
         }
         0x1D => {
             let mut e = k;
-            e.masks = words::without(k.masks, named(v));
+            e.masks = words::without(k.masks, masks::named(v));
             Kept {
                 known: true,
                 controller: e,
@@ -223,27 +187,27 @@ pub fn controller_written(k: Controller, off: u32, size: u32, v: u32) -> Kept
 {
     let mut e = k;
     let n = size as usize;
-    if within(0x00, 0x07, off) {
+    if masks::within(0x00, 0x07, off) {
         return Kept {
             known: true,
             controller: k,
         };
     }
-    if within(0x08, 0x0F, off) {
-        e.masks = with_bytes_in((off - 0x08) as usize, n, v, k.masks);
+    if masks::within(0x08, 0x0F, off) {
+        e.masks = masks::with_bytes_in((off - 0x08) as usize, n, v, k.masks);
         return Kept {
             known: true,
             controller: e,
         };
     }
-    if within(0x10, 0x17, off) {
-        e.forced = with_bytes_in((off - 0x10) as usize, n, v, k.forced);
+    if masks::within(0x10, 0x17, off) {
+        e.forced = masks::with_bytes_in((off - 0x10) as usize, n, v, k.forced);
         return Kept {
             known: true,
             controller: e,
         };
     }
-    if within(0x40, 0x7F, off) {
+    if masks::within(0x40, 0x7F, off) {
         return Kept {
             known: true,
             controller: with_levels(k, (off - 0x40) as usize, n, v),

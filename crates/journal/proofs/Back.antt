@@ -19,7 +19,7 @@ use Rattle.rules.specs.State.{Device}
 use Rattle.rules.proofs.BoolLaws.{and-left, and-right}
 use Rattle.rules.proofs.Back.{length-rec, length-lines}
 use Rattle.rules.proofs.BytesLaws.{length-splice, value-fits}
-use Rattle.journal.specs.Places.{holding}
+use Rattle.memory.specs.Places.{holding}
 use Rattle.journal.specs.Undoing.{undoLine, undoLines}
 use Rattle.journal.proofs.Laws.{memory-width}
 

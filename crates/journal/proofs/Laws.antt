@@ -1,25 +1,19 @@
--- The laws that the proofs of this crate cite, over plain variables: widths, room, places, and a record's bytes. Assumes nothing.
-use mathlib.Core.Bool.{Bool, true, false, cond, not, _||_}
+-- The laws that the proofs of this crate cite, over plain variables: widths, room, and a record's bytes. Assumes nothing.
+use mathlib.Core.Bool.{Bool, true, false, not, _||_}
 use mathlib.Core.List.{List}
 use mathlib.Core.Path.{_≡_, refl, sym, ap, _∙_}
-use Prim.Native.Nat.{ℕ, _+_, _-_, _*_, _/_, _%_, _^_, _≤_, _<_}
-use native.Mathlib.Nat.{add-comm, div-add-mod'}
+use Prim.Native.Nat.{ℕ, _+_, _-_, _≤_, _<_}
 use native.Mathlib.Numerals.{towards-suc}
 use native.Mathlib.Omega.{arith}
 use lib.Dec.{eqb, leb}
 use lib.ListN.{length, set}
-use borrow.Author.Tests.{leb-true, leb-false, le-leb, lt-leb, eqb-true, ne-eqb, not-true, not-false}
+use borrow.Author.Tests.{leb-true, leb-false, le-leb, lt-leb, eqb-true, not-true, not-false}
 use Rattle.rules.specs.Act.{window, table}
 use Rattle.rules.specs.Bytes.{bytes, splice}
-use Rattle.rules.specs.Carry.{legal, there, indexOf, line}
-use Rattle.rules.specs.State.{Device}
-use Rattle.rules.proofs.BoolLaws.{and-left, and-right, or-either}
-use Rattle.rules.proofs.BytesLaws.{splice-cons, splice-comm, splice-append, length-bytes, bytes-add}
-use Rattle.rules.proofs.Steps.{in-window, below-window, past-window}
-use Rattle.journal.specs.Widths.{MemoryWidth, TableWidth}
-use Rattle.journal.specs.Places.{holding, placeOf}
-use Rattle.journal.specs.declared.Place.{Place}
-use Rattle.journal.specs.declared.Place.the-variants.{At, Outside}
+use Rattle.rules.specs.Carry.{legal, line}
+use Rattle.rules.proofs.BoolLaws.{or-either}
+use Rattle.rules.proofs.BytesLaws.{splice-cons, splice-comm, splice-append, length-bytes}
+use Rattle.words.specs.Widths.{MemoryWidth, TableWidth}
 
 -- ---- widths
 
@@ -39,18 +33,6 @@ memory-width w e = record { positive = bounds .0; most = bounds .1; one-of = e }
 
 pub table-width : (w : ℕ) → MemoryWidth w → TableWidth w
 table-width w h = record { positive = h .positive; most = omega arith; one-of = rw (h .one-of) }
-
--- what is none of 1, 2 and 4
-pub eight : (w : ℕ) → TableWidth w → (w ≡ 1 → ⊥) → (w ≡ 2 → ⊥) → (w ≡ 4 → ⊥) → w ≡ 8
-eight w h n₁ n₂ n₄ = eqb-true w 8 (rw (ne-eqb w 1 n₁, ne-eqb w 2 n₂, ne-eqb w 4 n₄) at (h .one-of))
-
--- only the low bytes are stored
-bytes-low : (w v : ℕ) → bytes w (v % 256 ^ w) ≡ bytes w v
-bytes-low w v =
-    sym (bytes-add w (v / 256 ^ w) (v % 256 ^ w)) ∙ ap (bytes w) (add-comm (v % 256 ^ w) (v / 256 ^ w * 256 ^ w) ∙ div-add-mod' v (256 ^ w))
-
-pub put-low : (k : ℕ) (s : List ℕ) (at v : ℕ) {w : ℕ} {s′ : List ℕ} → w ≡ k → s′ ≡ splice s at (bytes k (v % 256 ^ k)) → s′ ≡ splice s at (bytes w v)
-put-low k s at v e h = h ∙ rw (e, bytes-low k v)
 
 -- ---- a record's bytes stored one after the other
 
@@ -82,58 +64,3 @@ module _ (at n : ℕ) {r : Bool} (asked : r ≡ leb (at + 16) n) where
 
   pub room : not r ≡ false → at + 16 ≤ n
   room e = leb-true (at + 16) n (sym asked ∙ not-false r e)
-
--- ---- places, by cases
-
-module _ (base : ℕ) (w : List ℕ) (a n : ℕ) where
-  pub place-below : a < base → Outside ≡ placeOf base w a n
-  unfolding placeOf
-  place-below h = rw (below-window base a n (holding w) h)
-
-  pub place-past : base + length w < a + n → Outside ≡ placeOf base w a n
-  unfolding placeOf holding
-  place-past h = rw (past-window base a n (holding w) h)
-
-  pub place-in : base ≤ a → a + n ≤ base + length w → At (a - base) ≡ placeOf base w a n
-  unfolding placeOf holding indexOf
-  place-in h l = rw (in-window base a n (holding w) h l)
-
-  -- and what an answer says
-  module _ {r : Place} (asked : r ≡ placeOf base w a n) where
-    decided : (b : Bool) → there base window a n (holding w) ≡ b → r ≡ cond b (At (indexOf base window a)) Outside
-    unfolding placeOf
-    decided b e = rw (← e) asked
-
-    module _ (found : r ≡ Outside) where
-      pub not-inside : there base window a n (holding w) ≡ false
-      not-inside = by (there base window a n (holding w)) refl
-        where
-          by : (b : Bool) → there base window a n (holding w) ≡ b → b ≡ false
-          by false t = refl
-          by true t = let z : At (indexOf base window a) ≡ Outside = sym (decided true t) ∙ found in absurd (let y : _≡_ {A = ℕ} 0 1 = cc in omega arith)
-
-      pub not-there : (d : Device) → there base window a n (record { mem = w; dev = d }) ≡ false
-      unfolding there holding
-      not-there d = not-inside
-
-    module _ {i : ℕ} (found : r ≡ At i) where
-      pub inside : there base window a n (holding w) ≡ true
-      inside = by (there base window a n (holding w)) refl
-        where
-          by : (b : Bool) → there base window a n (holding w) ≡ b → b ≡ true
-          by true t = refl
-          by false t = let z : Outside ≡ At i = sym (decided false t) ∙ found in absurd (let y : _≡_ {A = ℕ} 0 1 = cc in omega arith)
-
-      pub at-there : (d : Device) → there base window a n (record { mem = w; dev = d }) ≡ true
-      unfolding there holding
-      at-there d = inside
-
-      pub at-index : i ≡ indexOf base window a
-      at-index = let z : At i ≡ At (indexOf base window a) = sym found ∙ decided true inside in cc
-
-      pub at-fits : i + n ≤ length w
-      unfolding there holding indexOf
-      at-fits =
-          let low : base ≤ a = leb-true base a (and-left (leb base a) (leb (a + n) (base + length w)) inside) in
-          let high : a + n ≤ base + length w = leb-true (a + n) (base + length w) (and-right (leb base a) (leb (a + n) (base + length w)) inside) in
-          omega (arith, at-index)

@@ -5,7 +5,7 @@ use mathlib.Core.Path.{_≡_, refl, sym, ap, _∙_}
 use Prim.Native.Nat.{ℕ, zero, suc, _+_, _-_, _*_, _≤_, _<_}
 use native.Mathlib.Omega.{arith}
 use lib.Dec.{eqb}
-use lib.ListN.{length, getD, set, take, drop, replicate, length-replicate}
+use lib.ListN.{length, getD, take, drop, replicate}
 use lib.Seq.{drop-drop, drop-length}
 use borrow.Author.Tests.{eq-eqb, ne-eqb, not-true, not-false}
 use Rattle.rules.specs.Act.{window}
@@ -13,38 +13,12 @@ use Rattle.rules.specs.Bytes.{bytes, number, part, splice}
 use Rattle.rules.specs.Carry.{legal, there, indexOf}
 use Rattle.rules.specs.TakeBack.{kind, width, place, value}
 use Rattle.rules.proofs.BytesLaws.{getD-part, part-part}
-use Rattle.rules.proofs.Cut.{splice-cut, part-cut}
-use Rattle.journal.specs.Places.{holding, placeOf}
+use Rattle.rules.proofs.Cut.{part-cut}
+use Rattle.memory.specs.Places.{holding, placeOf}
 use Rattle.journal.specs.Undoing.{undoLine, undoLines}
-use Rattle.journal.specs.declared.Place.{Place}
-use Rattle.journal.specs.declared.Place.the-variants.{At, Outside}
-use Rattle.journal.proofs.Laws.{not-inside, inside, at-index}
-
--- ---- zeros, laid down from the last to the first: of n from `from` on, `left` are left
-
-module _ (s₀ : List ℕ) (from n : ℕ) where
-  pub zeros-none : s₀ ≡ splice s₀ (from + n) (replicate (n - n) 0)
-  unfolding splice
-  zeros-none =
-      let z : n - n ≡ 0 = omega arith in
-      rw z
-
-  pub zeros-turn : (s : List ℕ) (left : ℕ) → 0 < left → left ≤ n → s ≡ splice s₀ (from + left) (replicate (n - left) 0)
-      → set s (from + (left - 1)) 0 ≡ splice s₀ (from + (left - 1)) (replicate (n - (left - 1)) 0)
-  unfolding splice
-  zeros-turn s left more most e =
-      let k : n - (left - 1) ≡ suc (n - left) = omega arith in
-      let i : from + left ≡ suc (from + (left - 1)) = omega arith in
-      rw (e, k, i)
-
-  pub zeros-all : {s : List ℕ} (left to : ℕ) → left ≡ 0 → n ≡ to - from → from ≤ to → to ≤ length s₀ → s ≡ splice s₀ (from + left) (replicate (n - left) 0)
-      → s ≡ take from s₀ ++ replicate n 0 ++ drop to s₀
-  zeros-all left to none size h l e =
-      let all : n - left ≡ n = omega arith in
-      let start : from + left ≡ from = omega arith in
-      let long : length (replicate {A = ℕ} n 0) ≡ n = length-replicate n 0 in
-      let end : from + length (replicate {A = ℕ} n 0) ≡ to = omega arith in
-      e ∙ rw (all, start, splice-cut s₀ from (replicate n 0) (omega arith), end)
+use Rattle.memory.specs.declared.Place.{Place}
+use Rattle.memory.specs.declared.Place.the-variants.{At, Outside}
+use Rattle.memory.proofs.Laws.{not-inside, inside, at-index}
 
 -- zeros to the end
 pub zeros-to-end : (used : ℕ) (j : List ℕ) {j′ : List ℕ} → j′ ≡ take used j ++ replicate (length j - used) 0 ++ drop (length j) j

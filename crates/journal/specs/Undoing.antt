@@ -9,7 +9,7 @@ use Rattle.rules.specs.Act.{window}
 use Rattle.rules.specs.Bytes.{bytes, splice}
 use Rattle.rules.specs.Carry.{legal, there, indexOf}
 use Rattle.rules.specs.TakeBack.{kind, width, place, value}
-use Rattle.journal.specs.Places.{holding}
+use Rattle.memory.specs.Places.{holding}
 
 module _ (base : ℕ) where
   -- the window, with the old value of a record of 16 bytes laid over it again; a record of another kind, and one whose width or place does

@@ -1,45 +1,18 @@
 // The journal: its records, the stores that write them, and their undoing. Document 01, "Journal records".
 use flow::Flow;
 use flow::Step;
+use memory::Place;
 use rules::Refusal;
 ghost use mathlib.Core.Path.{_≡_};
-ghost use mathlib.Core.List.{_++_};
-ghost use Prim.Native.Nat.{_+_, _-_, _/_, _≤_, min};
+ghost use Prim.Native.Nat.{_+_, _-_, _/_, _≤_};
 ghost use lib.Dec.{leb};
-ghost use lib.ListN.{length, take, drop, replicate};
+ghost use lib.ListN.{length, drop};
 ghost use Rattle.rules.specs.Act.{store, window as inWindow, table as inTable};
-ghost use Rattle.rules.specs.Bytes.{bytes, number, part, splice};
+ghost use Rattle.rules.specs.Bytes.{bytes, part, splice};
 ghost use Rattle.rules.specs.Carry.{legal, line};
 ghost use Rattle.flow.specs.Worlds.{OnTable};
-ghost use Rattle.journal.specs.Widths.{TableWidth};
-ghost use Rattle.journal.specs.Places.{placeOf};
+ghost use Rattle.words.specs.Widths.{TableWidth};
 ghost use Rattle.journal.specs.Undoing.{undoLine, undoLines, RolledBack};
-
-// ---- numbers of a width that a record can have: where the width is a constant, its arm alone is left
-
-pub fn get_width(s: &[u8], at: usize, width: usize) -> u64
-    requires { ⌜ (at + width ≤ length (now s)) × (TableWidth width) ⌝ }
-    ensures { λ r. ⌜ r ≡ number (part (now (s .entry)) at width) ⌝ }
-{
-    match width {
-        1 => words::get1(s, at) as u64,
-        2 => words::get2(s, at) as u64,
-        4 => words::get4(s, at) as u64,
-        _ => words::get8(s, at),
-    }
-}
-
-pub fn put_width(s: &mut [u8], at: usize, width: usize, value: u64)
-    requires { ⌜ (at + width ≤ length (now s)) × (TableWidth width) ⌝ }
-    ensures { λ _. ⌜ now (s .exit) ≡ splice (now (s .entry)) at (bytes width value) ⌝ }
-{
-    match width {
-        1 => words::put1(s, at, (value % 0x100) as u8),
-        2 => words::put2(s, at, (value % 0x10000) as u16),
-        4 => words::put4(s, at, (value % 0x100000000) as u32),
-        _ => words::put8(s, at, value),
-    }
-}
 
 // ---- records
 
@@ -68,26 +41,6 @@ pub fn has_room(journal: &[u8], at: usize) -> bool
 
 // ---- stores, each with its record
 
-// Where an access falls: in the window, at an index, or with a byte outside it. Every access asks `where_is`, and nothing else.
-pub enum Place {
-    At(usize),
-    Outside,
-}
-
-pub fn where_is(window: &[u8], base: u32, address: u32, width: usize) -> Place
-    requires { ⌜ width ≤ 8 ⌝ }
-    ensures { λ r. ⌜ r ≡ placeOf base (now (window .entry)) address width ⌝ }
-{
-    if address < base {
-        return Place::Outside;
-    }
-    let i = (address - base) as usize;
-    if window.len() < i + width {
-        return Place::Outside;
-    }
-    Place::At(i)
-}
-
 // "One record per store, changed or not, before the store"; 11 where "the next record doesn't fit".
 pub fn store_table(
     s: Step,
@@ -105,13 +58,13 @@ pub fn store_table(
     };
     let at = c.at;
     // read before room is asked: a table that is lent shows its length, and the proof of the refusal needs that too
-    let old = get_width(table, place, width);
+    let old = words::get_width(table, place, width);
     if !has_room(journal, at) {
         return Step::Refused(Refusal::Room, c);
     }
     let end = at + 16;
     put_record(journal, at, 1, width as u8, place as u32, old);
-    put_width(table, place, width, value);
+    words::put_width(table, place, width, value);
     Step::Going(Flow {
         cr: c.cr,
         erq: c.erq,
@@ -122,18 +75,6 @@ pub fn store_table(
 }
 
 // ---- undoing
-
-// Zeros from `from` up to `to`; the rest stays.
-pub fn clear(s: &mut [u8], from: usize, to: usize)
-    requires { ⌜ (from ≤ to) × (to ≤ length (now s)) ⌝ }
-    ensures { λ _. ⌜ now (s .exit) ≡ take from (now (s .entry)) ++ replicate (to - from) 0 ++ drop to (now (s .entry)) ⌝ }
-{
-    let mut left = to - from;
-    while 0 < left {
-        left -= 1;
-        s[from + left] = 0;
-    }
-}
 
 // "Kind 0: memory store (width 1, 2, 4; address)."
 pub fn is_memory_width(width: usize) -> bool
@@ -149,7 +90,7 @@ pub fn is_memory_width(width: usize) -> bool
 
 // Lays the old value of the record at `p` over the window again. A record of another kind, and one whose width or place does not fit the
 // window, is passed over.
-fn undo_one(window: &mut [u8], base: u32, journal: &[u8], p: usize)
+fn undo_one(base: u32, window: &mut [u8], journal: &[u8], p: usize)
     requires { ⌜ p + 16 ≤ length (now journal) ⌝ }
     ensures { λ _. ⌜ now (window .exit) ≡ undoLine base (part (now (journal .entry)) p 16) (now (window .entry)) ⌝ }
 {
@@ -163,14 +104,14 @@ fn undo_one(window: &mut [u8], base: u32, journal: &[u8], p: usize)
     if !is_memory_width(width) {
         return;
     }
-    let Place::At(i) = where_is(window, base, place, width) else {
+    let Place::At(i) = memory::where_is(base, window, place, width) else {
         return;
     };
-    put_width(window, i, width, old);
+    words::put_width(window, i, width, old);
 }
 
 // Undoes the memory records from `from` up to `to`. "Undoing goes last to first."
-pub fn undo_window(window: &mut [u8], base: u32, journal: &[u8], from: usize, to: usize)
+pub fn undo_window(base: u32, window: &mut [u8], journal: &[u8], from: usize, to: usize)
     requires { ⌜ (from ≤ to) × (to ≤ length (now journal)) ⌝ }
     ensures { λ _. ⌜ now (window .exit) ≡ undoLines base ((to - from) / 16) (drop from (now (journal .entry))) (now (window .entry)) ⌝ }
 {
@@ -178,26 +119,19 @@ pub fn undo_window(window: &mut [u8], base: u32, journal: &[u8], from: usize, to
     let mut done = 0;
     while done < count {
         let last = count - done - 1;
-        undo_one(window, base, journal, from + last * 16);
+        undo_one(base, window, journal, from + last * 16);
         done += 1;
     }
 }
 
-// A function of its own, so that its caller has no branch.
-fn least(a: usize, b: usize) -> usize
-    ensures { λ r. ⌜ r ≡ min a b ⌝ }
-{
-    if a < b { a } else { b }
-}
-
 // Takes back the stores in the window since the journal ended at `used`, where it ends at `at` now. "Journal bytes past the used length: zero
 // to the end." An `at` past the journal's end counts as the end: both stand for the same world, so no contract of a caller can rule it out.
-pub fn roll_back(window: &mut [u8], base: u32, journal: &mut [u8], used: usize, at: usize)
+pub fn roll_back(base: u32, window: &mut [u8], journal: &mut [u8], used: usize, at: usize)
     requires { ⌜ (used ≤ at) × (used ≤ length (now journal)) ⌝ }
     ensures { λ _. ⌜ RolledBack base used at (now (window .entry)) (now (journal .entry)) (now (window .exit)) (now (journal .exit)) ⌝ }
 {
     let len = journal.len();
-    let end = least(at, len);
-    undo_window(window, base, journal, used, end);
-    clear(journal, used, len);
+    let end = words::least(at, len);
+    undo_window(base, window, journal, used, end);
+    words::clear(journal, used, len);
 }

@@ -34,8 +34,8 @@ fn steps_of(t: Tcd) -> Steps
 
 // "Equal sizes: read and write unit by unit"; "unequal: read all first". The bytes are rounded up to whole source sizes.
 fn transfer(
-    window: &mut [u8],
     base: u32,
+    window: &mut [u8],
     t: Tcd,
     n: u32,
     staging: &mut [u8],
@@ -52,11 +52,11 @@ fn transfer(
     let from = t.saddr;
     let to = t.daddr;
     if ssize == dsize {
-        return mover::move_sizes(window, base, ssize, reads, step, from, to, journal, at);
+        return mover::move_sizes(base, window, ssize, reads, step, from, to, journal, at);
     }
     stager::move_unequal(
-        window,
         base,
+        window,
         ssize,
         dsize,
         reads,
@@ -85,8 +85,8 @@ fn with_end(c: Flow, e: usize) -> Flow
 // One minor loop.
 pub fn dma_minor(
     c: Flow,
-    window: &mut [u8],
     base: u32,
+    window: &mut [u8],
     table: &mut [u8; 2048],
     majors: &mut [u64; 64],
     ch: usize,
@@ -101,7 +101,7 @@ pub fn dma_minor(
         return Passed::Idle;
     }
     let n = sums::minor_bytes(c.cr, t);
-    match transfer(window, base, t, n, staging, journal, c.at) {
+    match transfer(base, window, t, n, staging, journal, c.at) {
         Moved::Not(r, e) => Passed::Ran(Step::Refused(r, with_end(c, e))),
         Moved::To(s, d, e) => {
             let s1 = sums::moved_on(sums::sources(c.cr, t), t, s);
@@ -109,8 +109,8 @@ pub fn dma_minor(
             let next = Step::Going(with_end(c, e));
             Passed::Ran(finish::dma_minor_done(
                 next,
-                window,
                 base,
+                window,
                 table,
                 majors,
                 ch,

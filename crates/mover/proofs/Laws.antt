@@ -18,10 +18,10 @@ use Rattle.rules.proofs.Steps.{fetch-inside, fetch-outside}
 use Rattle.words.specs.Sizes.{aSize, Sized}
 use Rattle.flow.specs.Worlds.{walked}
 use Rattle.flow.specs.declared.Walk.the-variants as Walk
-use Rattle.journal.specs.Places.{placeOf}
-use Rattle.journal.specs.declared.Place.{Place}
-use Rattle.journal.specs.declared.Place.the-variants.{At, Outside}
-use Rattle.journal.proofs.Laws.{not-there, at-there, at-index}
+use Rattle.memory.specs.Places.{placeOf}
+use Rattle.memory.specs.declared.Place.{Place}
+use Rattle.memory.specs.declared.Place.the-variants.{At, Outside}
+use Rattle.memory.proofs.Laws.{not-there, at-there, at-index}
 use Rattle.mover.specs.Moves.{moved}
 use Rattle.mover.specs.declared.Moved.the-variants.{To}
 

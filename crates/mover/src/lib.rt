@@ -2,7 +2,7 @@
 // the width in it is a constant, so that a unit compiles to plain loads and stores.
 // Each contract says that the function does the steps of its tree (crate `rules`, specs/Minor.antt), whatever the rest of the world is.
 use flow::Walk;
-use journal::Place;
+use memory::Place;
 use rules::Refusal;
 ghost use mathlib.Core.Path.{_≡_};
 ghost use Prim.Native.Nat.{_+_, _*_, _%_, _^_, _≤_, _<_};
@@ -29,8 +29,8 @@ pub enum Moved {
 // ---- a unit stored, "one record per store, changed or not, before the store"; "9 before 11 at one store"
 
 pub fn store1(
-    window: &mut [u8],
     base: u32,
+    window: &mut [u8],
     address: u32,
     value: u8,
     journal: &mut [u8],
@@ -38,7 +38,7 @@ pub fn store1(
 ) -> Walk
     ensures { λ r. ⌜ Walks (store inWindow address 1 value) base at r (now (window .entry)) (now (window .exit)) (now (journal .entry)) (now (journal .exit)) ⌝ }
 {
-    let Place::At(i) = journal::where_is(window, base, address, 1) else {
+    let Place::At(i) = memory::where_is(base, window, address, 1) else {
         return Walk::Off(Refusal::Outside, at);
     };
     if !journal::has_room(journal, at) {
@@ -51,8 +51,8 @@ pub fn store1(
 }
 
 pub fn store2(
-    window: &mut [u8],
     base: u32,
+    window: &mut [u8],
     address: u32,
     value: u16,
     journal: &mut [u8],
@@ -60,7 +60,7 @@ pub fn store2(
 ) -> Walk
     ensures { λ r. ⌜ Walks (store inWindow address 2 value) base at r (now (window .entry)) (now (window .exit)) (now (journal .entry)) (now (journal .exit)) ⌝ }
 {
-    let Place::At(i) = journal::where_is(window, base, address, 2) else {
+    let Place::At(i) = memory::where_is(base, window, address, 2) else {
         return Walk::Off(Refusal::Outside, at);
     };
     if !journal::has_room(journal, at) {
@@ -73,8 +73,8 @@ pub fn store2(
 }
 
 pub fn store4(
-    window: &mut [u8],
     base: u32,
+    window: &mut [u8],
     address: u32,
     value: u32,
     journal: &mut [u8],
@@ -82,7 +82,7 @@ pub fn store4(
 ) -> Walk
     ensures { λ r. ⌜ Walks (store inWindow address 4 value) base at r (now (window .entry)) (now (window .exit)) (now (journal .entry)) (now (journal .exit)) ⌝ }
 {
-    let Place::At(i) = journal::where_is(window, base, address, 4) else {
+    let Place::At(i) = memory::where_is(base, window, address, 4) else {
         return Walk::Off(Refusal::Outside, at);
     };
     if !journal::has_room(journal, at) {
@@ -96,41 +96,41 @@ pub fn store4(
 
 // ---- a unit moved
 
-fn move_unit1(window: &mut [u8], base: u32, a: u32, b: u32, journal: &mut [u8], at: usize) -> Walk
+fn move_unit1(base: u32, window: &mut [u8], a: u32, b: u32, journal: &mut [u8], at: usize) -> Walk
     ensures { λ r. ⌜ Walks (moveUnit 1 a b) base at r (now (window .entry)) (now (window .exit)) (now (journal .entry)) (now (journal .exit)) ⌝ }
 {
-    let Place::At(i) = journal::where_is(window, base, a, 1) else {
+    let Place::At(i) = memory::where_is(base, window, a, 1) else {
         return Walk::Off(Refusal::Outside, at);
     };
     let v = words::get1(window, i);
-    store1(window, base, b, v, journal, at)
+    store1(base, window, b, v, journal, at)
 }
 
-fn move_unit2(window: &mut [u8], base: u32, a: u32, b: u32, journal: &mut [u8], at: usize) -> Walk
+fn move_unit2(base: u32, window: &mut [u8], a: u32, b: u32, journal: &mut [u8], at: usize) -> Walk
     ensures { λ r. ⌜ Walks (moveUnit 2 a b) base at r (now (window .entry)) (now (window .exit)) (now (journal .entry)) (now (journal .exit)) ⌝ }
 {
-    let Place::At(i) = journal::where_is(window, base, a, 2) else {
+    let Place::At(i) = memory::where_is(base, window, a, 2) else {
         return Walk::Off(Refusal::Outside, at);
     };
     let v = words::get2(window, i);
-    store2(window, base, b, v, journal, at)
+    store2(base, window, b, v, journal, at)
 }
 
-fn move_unit4(window: &mut [u8], base: u32, a: u32, b: u32, journal: &mut [u8], at: usize) -> Walk
+fn move_unit4(base: u32, window: &mut [u8], a: u32, b: u32, journal: &mut [u8], at: usize) -> Walk
     ensures { λ r. ⌜ Walks (moveUnit 4 a b) base at r (now (window .entry)) (now (window .exit)) (now (journal .entry)) (now (journal .exit)) ⌝ }
 {
-    let Place::At(i) = journal::where_is(window, base, a, 4) else {
+    let Place::At(i) = memory::where_is(base, window, a, 4) else {
         return Walk::Off(Refusal::Outside, at);
     };
     let v = words::get4(window, i);
-    store4(window, base, b, v, journal, at)
+    store4(base, window, b, v, journal, at)
 }
 
 // ---- sizes of 1, 2 and 4 bytes, each one unit: "only the step by `soff` or `doff` after each whole size uses modulo"
 
 fn move_sizes1(
-    window: &mut [u8],
     base: u32,
+    window: &mut [u8],
     count: u32,
     step: Steps,
     from: u32,
@@ -146,7 +146,7 @@ fn move_sizes1(
     let mut end = at;
     let mut left = count;
     while left != 0 {
-        match move_unit1(window, base, s, d, journal, end) {
+        match move_unit1(base, window, s, d, journal, end) {
             Walk::On(next) => {
                 end = next;
             }
@@ -162,8 +162,8 @@ fn move_sizes1(
 }
 
 fn move_sizes2(
-    window: &mut [u8],
     base: u32,
+    window: &mut [u8],
     count: u32,
     step: Steps,
     from: u32,
@@ -179,7 +179,7 @@ fn move_sizes2(
     let mut end = at;
     let mut left = count;
     while left != 0 {
-        match move_unit2(window, base, s, d, journal, end) {
+        match move_unit2(base, window, s, d, journal, end) {
             Walk::On(next) => {
                 end = next;
             }
@@ -195,8 +195,8 @@ fn move_sizes2(
 }
 
 fn move_sizes4(
-    window: &mut [u8],
     base: u32,
+    window: &mut [u8],
     count: u32,
     step: Steps,
     from: u32,
@@ -212,7 +212,7 @@ fn move_sizes4(
     let mut end = at;
     let mut left = count;
     while left != 0 {
-        match move_unit4(window, base, s, d, journal, end) {
+        match move_unit4(base, window, s, d, journal, end) {
             Walk::On(next) => {
                 end = next;
             }
@@ -239,8 +239,8 @@ pub fn unit_at(address: u32, k: u32) -> u32
 
 // `count` units, "in rising k".
 fn move_units4(
-    window: &mut [u8],
     base: u32,
+    window: &mut [u8],
     count: u32,
     from: u32,
     to: u32,
@@ -255,7 +255,7 @@ fn move_units4(
     while k < count {
         let a = unit_at(from, k);
         let b = unit_at(to, k);
-        match move_unit4(window, base, a, b, journal, end) {
+        match move_unit4(base, window, a, b, journal, end) {
             Walk::On(next) => {
                 end = next;
             }
@@ -269,8 +269,8 @@ fn move_units4(
 }
 
 fn move_bursts(
-    window: &mut [u8],
     base: u32,
+    window: &mut [u8],
     size: u32,
     count: u32,
     step: Steps,
@@ -288,7 +288,7 @@ fn move_bursts(
     let mut end = at;
     let mut left = count;
     while left != 0 {
-        match move_units4(window, base, units, s, d, journal, end) {
+        match move_units4(base, window, units, s, d, journal, end) {
             Walk::On(next) => {
                 end = next;
             }
@@ -306,8 +306,8 @@ fn move_bursts(
 // ---- `count` whole sizes, of any size
 
 pub fn move_sizes(
-    window: &mut [u8],
     base: u32,
+    window: &mut [u8],
     size: u32,
     count: u32,
     step: Steps,
@@ -320,9 +320,9 @@ pub fn move_sizes(
     ensures { λ r. ⌜ Moves (moveSizes count (step .soff) (step .smod) (step .doff) (step .dmod) size from to) base at r (now (window .entry)) (now (window .exit)) (now (journal .entry)) (now (journal .exit)) ⌝ }
 {
     match size {
-        1 => move_sizes1(window, base, count, step, from, to, journal, at),
-        2 => move_sizes2(window, base, count, step, from, to, journal, at),
-        4 => move_sizes4(window, base, count, step, from, to, journal, at),
-        _ => move_bursts(window, base, size, count, step, from, to, journal, at),
+        1 => move_sizes1(base, window, count, step, from, to, journal, at),
+        2 => move_sizes2(base, window, count, step, from, to, journal, at),
+        4 => move_sizes4(base, window, count, step, from, to, journal, at),
+        _ => move_bursts(base, window, size, count, step, from, to, journal, at),
     }
 }

@@ -25,7 +25,7 @@ use Rattle.rules.specs.declared.Verdict.the-variants as Verdict
 use Rattle.rules.proofs.BoolLaws.{and-left, and-both}
 use Rattle.flow.specs.Does.{Answers}
 use Rattle.intc.specs.Writes.{InWord}
-use Rattle.intc.proofs.ReadLaws.{within-true}
+use Rattle.masks.proofs.Ranges.{within-true}
 use Rattle.dma_read.specs.Access.{Fair}
 use Rattle.registers.specs.Asked.{pastEnd, pastPart, readSo, asked}
 

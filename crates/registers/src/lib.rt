@@ -29,7 +29,7 @@ ghost use Rattle.registers.specs.Asked.{pastEnd, pastPart, readSo, Write
 fn in_blocks(address: u32) -> bool
     ensures { λ r. ⌜ r ≡ inBlocks address ⌝ }
 {
-    intc::within(0xFC044000, 0xFC053FFF, address)
+    masks::within(0xFC044000, 0xFC053FFF, address)
 }
 
 // 0 DMA; 1, 2, 3: controllers 0, 1, 2.
@@ -45,7 +45,7 @@ fn past_end(off: u32, size: u32) -> bool
     requires { ⌜ (off < 0x4000) × (badSize size ≡ false) ⌝ }
     ensures { λ r. ⌜ r ≡ pastEnd off size ⌝ }
 {
-    if !intc::within(0x1000, 0x17FF, off) {
+    if !masks::within(0x1000, 0x17FF, off) {
         return false;
     }
     0x1800 < off + size
@@ -56,7 +56,7 @@ fn past_part(off: u32, size: u32) -> bool
     requires { ⌜ badSize size ≡ false ⌝ }
     ensures { λ r. ⌜ r ≡ pastPart off size ⌝ }
 {
-    if !intc::within(0x08, 0x17, off) {
+    if !masks::within(0x08, 0x17, off) {
         return false;
     }
     4 < off % 4 + size

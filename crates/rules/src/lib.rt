@@ -16,6 +16,26 @@ pub struct Tcd {
     pub csr: u16,
 }
 
+// The bits of `csr`.
+pub const START: usize = 0;
+
+pub const INTMAJOR: usize = 1;
+
+pub const INTHALF: usize = 2;
+
+pub const DREQ: usize = 3;
+
+pub const ESG: usize = 4;
+
+pub const MAJORELINK: usize = 5;
+
+pub const ACTIVE: usize = 6;
+
+pub const DONE: usize = 7;
+
+// The channel that is paced: its passes are a line's.
+pub const LINE: usize = 35;
+
 // One interrupt controller: its masks (IMR), forced sources (FRC), lines, ICONFIG and its 64 level bytes.
 pub struct Controller {
     pub masks: u64,

@@ -17,7 +17,7 @@ use Rattle.rules.specs.TakeBack.{kind, width, place, value, marked, soundStore,
 use Rattle.rules.specs.State.{Device}
 use Rattle.rules.proofs.BytesLaws.{length-part, value-lt, bytes-part, part-part}
 use Rattle.rules.proofs.Cut.{part-cut}
-use Rattle.journal.specs.Places.{holding}
+use Rattle.memory.specs.Places.{holding}
 use Rattle.scan.specs.Heads.{allows, Judges, soundWith}
 use Rattle.scan.specs.declared.Head.{Head}
 use Rattle.scan.specs.declared.Head.the-variants.{Wide, Damaged}

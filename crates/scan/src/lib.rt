@@ -1,5 +1,5 @@
 // The damage scan of a take-back: whether a group's records can all be undone. Document 01, "Damaged"; quoted words are its.
-use journal::Place;
+use memory::Place;
 ghost use mathlib.Core.Path.{_≡_};
 ghost use mathlib.Core.List.{List};
 ghost use Prim.Native.Nat.{ℕ, _+_, _*_, _≤_};
@@ -8,7 +8,7 @@ ghost use Rattle.rules.specs.Act.{window as inWindow, table as inTable};
 ghost use Rattle.rules.specs.Bytes.{part};
 ghost use Rattle.rules.specs.Carry.{legal};
 ghost use Rattle.rules.specs.TakeBack.{marked, soundStore, soundField};
-ghost use Rattle.journal.specs.Places.{holding};
+ghost use Rattle.memory.specs.Places.{holding};
 ghost use Rattle.scan.specs.Heads.{Judges, Scanned, soundWith};
 
 // What the first 8 bytes of a record leave to its value: the last so many of its 8 bytes, or, since they are damaged, nothing.
@@ -48,7 +48,7 @@ fn window_head(base: u32, window: &[u8], place: u32, width: usize) -> Head
     if !journal::is_memory_width(width) {
         return Head::Damaged;
     }
-    let Place::At(_) = journal::where_is(window, base, place, width) else {
+    let Place::At(_) = memory::where_is(base, window, place, width) else {
         return Head::Damaged;
     };
     Head::Wide(width)

@@ -18,10 +18,10 @@ use Rattle.rules.specs.State.{Device}
 use Rattle.rules.proofs.BytesLaws.{part-back, length-part}
 use Rattle.rules.proofs.Cut.{splice-cut}
 use Rattle.rules.proofs.Steps.{andThen, go-bind, fetch-inside, fetch-outside}
-use Rattle.journal.specs.Places.{placeOf}
-use Rattle.journal.specs.declared.Place.{Place}
-use Rattle.journal.specs.declared.Place.the-variants as Place
-use Rattle.journal.proofs.Laws.{not-there, at-there, at-index}
+use Rattle.memory.specs.Places.{placeOf}
+use Rattle.memory.specs.declared.Place.{Place}
+use Rattle.memory.specs.declared.Place.the-variants as Place
+use Rattle.memory.proofs.Laws.{not-there, at-there, at-index}
 use Rattle.stager.specs.Stages.{gotten, readTo, Reads}
 use Rattle.stager.specs.declared.Read.the-variants as Read
 

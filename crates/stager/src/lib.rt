@@ -2,7 +2,7 @@
 // in the caller's staging. As in crate `mover` there is one loop for each unit size, with its width a constant.
 // Each contract says that the function does the steps of its tree (crate `rules`, specs/Minor.antt), whatever the rest of the world is.
 use flow::Walk;
-use journal::Place;
+use memory::Place;
 use mover::Moved;
 use mover::Steps;
 use rules::Refusal;
@@ -30,33 +30,33 @@ pub enum Wrote {
 
 // ---- a unit read: it goes behind the `len` bytes that were read before
 
-fn read_unit1(window: &[u8], base: u32, a: u32, staging: &mut [u8], len: usize) -> bool
+fn read_unit1(base: u32, window: &[u8], a: u32, staging: &mut [u8], len: usize) -> bool
     requires { ⌜ len + 1 ≤ length (now staging) ⌝ }
     ensures { λ r. ⌜ Reads (readUnit 1 a (take len (now (staging .entry)))) base (now (window .entry)) r (take (len + 1) (now (staging .exit))) ⌝ }
 {
-    let Place::At(i) = journal::where_is(window, base, a, 1) else {
+    let Place::At(i) = memory::where_is(base, window, a, 1) else {
         return false;
     };
     words::put1(staging, len, words::get1(window, i));
     true
 }
 
-fn read_unit2(window: &[u8], base: u32, a: u32, staging: &mut [u8], len: usize) -> bool
+fn read_unit2(base: u32, window: &[u8], a: u32, staging: &mut [u8], len: usize) -> bool
     requires { ⌜ len + 2 ≤ length (now staging) ⌝ }
     ensures { λ r. ⌜ Reads (readUnit 2 a (take len (now (staging .entry)))) base (now (window .entry)) r (take (len + 2) (now (staging .exit))) ⌝ }
 {
-    let Place::At(i) = journal::where_is(window, base, a, 2) else {
+    let Place::At(i) = memory::where_is(base, window, a, 2) else {
         return false;
     };
     words::put2(staging, len, words::get2(window, i));
     true
 }
 
-fn read_unit4(window: &[u8], base: u32, a: u32, staging: &mut [u8], len: usize) -> bool
+fn read_unit4(base: u32, window: &[u8], a: u32, staging: &mut [u8], len: usize) -> bool
     requires { ⌜ len + 4 ≤ length (now staging) ⌝ }
     ensures { λ r. ⌜ Reads (readUnit 4 a (take len (now (staging .entry)))) base (now (window .entry)) r (take (len + 4) (now (staging .exit))) ⌝ }
 {
-    let Place::At(i) = journal::where_is(window, base, a, 4) else {
+    let Place::At(i) = memory::where_is(base, window, a, 4) else {
         return false;
     };
     words::put4(staging, len, words::get4(window, i));
@@ -66,8 +66,8 @@ fn read_unit4(window: &[u8], base: u32, a: u32, staging: &mut [u8], len: usize) 
 // ---- whole sizes read, from the start of staging on
 
 fn read_sizes1(
-    window: &[u8],
     base: u32,
+    window: &[u8],
     count: u32,
     soff: u32,
     smod: u32,
@@ -81,7 +81,7 @@ fn read_sizes1(
     let mut len: usize = 0;
     let mut left = count;
     while left != 0 {
-        if !read_unit1(window, base, s, staging, len) {
+        if !read_unit1(base, window, s, staging, len) {
             return Read::Outside;
         }
         s = words::modulo_add(s, soff, smod);
@@ -92,8 +92,8 @@ fn read_sizes1(
 }
 
 fn read_sizes2(
-    window: &[u8],
     base: u32,
+    window: &[u8],
     count: u32,
     soff: u32,
     smod: u32,
@@ -107,7 +107,7 @@ fn read_sizes2(
     let mut len: usize = 0;
     let mut left = count;
     while left != 0 {
-        if !read_unit2(window, base, s, staging, len) {
+        if !read_unit2(base, window, s, staging, len) {
             return Read::Outside;
         }
         s = words::modulo_add(s, soff, smod);
@@ -118,8 +118,8 @@ fn read_sizes2(
 }
 
 fn read_sizes4(
-    window: &[u8],
     base: u32,
+    window: &[u8],
     count: u32,
     soff: u32,
     smod: u32,
@@ -133,7 +133,7 @@ fn read_sizes4(
     let mut len: usize = 0;
     let mut left = count;
     while left != 0 {
-        if !read_unit4(window, base, s, staging, len) {
+        if !read_unit4(base, window, s, staging, len) {
             return Read::Outside;
         }
         s = words::modulo_add(s, soff, smod);
@@ -145,8 +145,8 @@ fn read_sizes4(
 
 // Sizes of 16 and 32 bytes, which are read in units of 4.
 fn read_units4(
-    window: &[u8],
     base: u32,
+    window: &[u8],
     count: u32,
     from: u32,
     staging: &mut [u8],
@@ -159,7 +159,7 @@ fn read_units4(
     let mut k: u32 = 0;
     while k < count {
         let a = mover::unit_at(from, k);
-        if !read_unit4(window, base, a, staging, end) {
+        if !read_unit4(base, window, a, staging, end) {
             return false;
         }
         end += 4;
@@ -169,8 +169,8 @@ fn read_units4(
 }
 
 fn read_bursts(
-    window: &[u8],
     base: u32,
+    window: &[u8],
     size: u32,
     count: u32,
     soff: u32,
@@ -186,7 +186,7 @@ fn read_bursts(
     let mut len: usize = 0;
     let mut left = count;
     while left != 0 {
-        if !read_units4(window, base, units, s, staging, len) {
+        if !read_units4(base, window, units, s, staging, len) {
             return Read::Outside;
         }
         s = words::modulo_add(s, soff, smod);
@@ -197,8 +197,8 @@ fn read_bursts(
 }
 
 fn read_sizes(
-    window: &[u8],
     base: u32,
+    window: &[u8],
     size: u32,
     count: u32,
     soff: u32,
@@ -210,18 +210,18 @@ fn read_sizes(
     ensures { λ r. ⌜ ReadsTo (readSizes count soff smod size from []) base (now (window .entry)) r (take (count * size) (now (staging .exit))) ⌝ }
 {
     match size {
-        1 => read_sizes1(window, base, count, soff, smod, from, staging),
-        2 => read_sizes2(window, base, count, soff, smod, from, staging),
-        4 => read_sizes4(window, base, count, soff, smod, from, staging),
-        _ => read_bursts(window, base, size, count, soff, smod, from, staging),
+        1 => read_sizes1(base, window, count, soff, smod, from, staging),
+        2 => read_sizes2(base, window, count, soff, smod, from, staging),
+        4 => read_sizes4(base, window, count, soff, smod, from, staging),
+        _ => read_bursts(base, window, size, count, soff, smod, from, staging),
     }
 }
 
 // ---- what was read, written: `count` whole sizes
 
 fn write_sizes1(
-    window: &mut [u8],
     base: u32,
+    window: &mut [u8],
     count: u32,
     doff: u32,
     dmod: u32,
@@ -239,7 +239,7 @@ fn write_sizes1(
     let mut left = count;
     while left != 0 {
         let v = words::get1(staging, pos);
-        match mover::store1(window, base, d, v, journal, end) {
+        match mover::store1(base, window, d, v, journal, end) {
             Walk::On(next) => {
                 end = next;
             }
@@ -255,8 +255,8 @@ fn write_sizes1(
 }
 
 fn write_sizes2(
-    window: &mut [u8],
     base: u32,
+    window: &mut [u8],
     count: u32,
     doff: u32,
     dmod: u32,
@@ -274,7 +274,7 @@ fn write_sizes2(
     let mut left = count;
     while left != 0 {
         let v = words::get2(staging, pos);
-        match mover::store2(window, base, d, v, journal, end) {
+        match mover::store2(base, window, d, v, journal, end) {
             Walk::On(next) => {
                 end = next;
             }
@@ -290,8 +290,8 @@ fn write_sizes2(
 }
 
 fn write_sizes4(
-    window: &mut [u8],
     base: u32,
+    window: &mut [u8],
     count: u32,
     doff: u32,
     dmod: u32,
@@ -309,7 +309,7 @@ fn write_sizes4(
     let mut left = count;
     while left != 0 {
         let v = words::get4(staging, pos);
-        match mover::store4(window, base, d, v, journal, end) {
+        match mover::store4(base, window, d, v, journal, end) {
             Walk::On(next) => {
                 end = next;
             }
@@ -326,8 +326,8 @@ fn write_sizes4(
 
 // Sizes of 16 and 32 bytes, which are written in units of 4.
 fn write_units4(
-    window: &mut [u8],
     base: u32,
+    window: &mut [u8],
     count: u32,
     to: u32,
     staging: &[u8],
@@ -343,7 +343,7 @@ fn write_units4(
     while k < count {
         let b = mover::unit_at(to, k);
         let v = words::get4(staging, pos + (k * 4) as usize);
-        match mover::store4(window, base, b, v, journal, end) {
+        match mover::store4(base, window, b, v, journal, end) {
             Walk::On(next) => {
                 end = next;
             }
@@ -357,8 +357,8 @@ fn write_units4(
 }
 
 fn write_bursts(
-    window: &mut [u8],
     base: u32,
+    window: &mut [u8],
     size: u32,
     count: u32,
     doff: u32,
@@ -377,7 +377,7 @@ fn write_bursts(
     let mut end = at;
     let mut left = count;
     while left != 0 {
-        match write_units4(window, base, units, d, staging, pos, journal, end) {
+        match write_units4(base, window, units, d, staging, pos, journal, end) {
             Walk::On(next) => {
                 end = next;
             }
@@ -393,8 +393,8 @@ fn write_bursts(
 }
 
 fn write_sizes(
-    window: &mut [u8],
     base: u32,
+    window: &mut [u8],
     size: u32,
     count: u32,
     doff: u32,
@@ -408,12 +408,12 @@ fn write_sizes(
     ensures { λ r. ⌜ Writes (writeSizes count doff dmod size to (now (staging .entry)) 0) base at r (now (window .entry)) (now (window .exit)) (now (journal .entry)) (now (journal .exit)) ⌝ }
 {
     match size {
-        1 => write_sizes1(window, base, count, doff, dmod, to, staging, journal, at),
-        2 => write_sizes2(window, base, count, doff, dmod, to, staging, journal, at),
-        4 => write_sizes4(window, base, count, doff, dmod, to, staging, journal, at),
+        1 => write_sizes1(base, window, count, doff, dmod, to, staging, journal, at),
+        2 => write_sizes2(base, window, count, doff, dmod, to, staging, journal, at),
+        4 => write_sizes4(base, window, count, doff, dmod, to, staging, journal, at),
         _ => write_bursts(
-            window,
             base,
+            window,
             size,
             count,
             doff,
@@ -429,8 +429,8 @@ fn write_sizes(
 // ---- the whole: 10, "an unequal-size pass reads more bytes than staging has", "at the start of the pass"
 
 pub fn move_unequal(
-    window: &mut [u8],
     base: u32,
+    window: &mut [u8],
     ssize: u32,
     dsize: u32,
     reads: u32,
@@ -451,7 +451,7 @@ pub fn move_unequal(
     }
     let soff = step.soff;
     let smod = step.smod;
-    let r = read_sizes(window, base, ssize, reads, soff, smod, from, staging);
+    let r = read_sizes(base, window, ssize, reads, soff, smod, from, staging);
     let Read::At(s) = r else {
         return Moved::Not(Refusal::Outside, at);
     };
@@ -459,7 +459,7 @@ pub fn move_unequal(
     let got = &staging[..all];
     let doff = step.doff;
     let dmod = step.dmod;
-    match write_sizes(window, base, dsize, count, doff, dmod, to, got, journal, at) {
+    match write_sizes(base, window, dsize, count, doff, dmod, to, got, journal, at) {
         Wrote::To(d, e) => Moved::To(s, d, e),
         Wrote::Not(n, e) => Moved::Not(n, e),
     }

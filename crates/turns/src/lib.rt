@@ -3,7 +3,9 @@
 use channel::Line;
 use flow::Flow;
 use flow::Step;
+use rules::LINE;
 use rules::Refusal;
+use rules::START;
 ghost use mathlib.Core.Path.{_≡_};
 ghost use mathlib.Core.List.{List};
 ghost use Prim.Native.Nat.{ℕ, _^_, _≤_, _<_, min};
@@ -61,8 +63,8 @@ pub fn serve_line(
     t: Course,
     time: u64,
     pace: u64,
-    window: &mut [u8],
     base: u32,
+    window: &mut [u8],
     table: &mut [u8; 2048],
     majors: &mut [u64; 64],
     busy: &mut [u64; 64],
@@ -73,7 +75,7 @@ pub fn serve_line(
     ensures { λ r. ⌜ ((p : List ℕ) (standing : ℕ) → Turns (serveLine time pace) base (lending (length (now (staging .entry)))) standing t r (now (window .entry)) (now (window .exit)) (now (journal .entry)) (now (journal .exit)) (now (table .entry)) (now (table .exit)) (now (majors .entry)) (now (majors .exit)) p p (now (busy .entry)) (now (busy .exit))) ⌝ }
 {
     let c = t.flow;
-    let l = channel::line_loop(c, window, base, table, majors, staging, journal);
+    let l = channel::line_loop(c, base, window, table, majors, staging, journal);
     match l {
         Line::Broken(n, flow) => Turned::Off(
             n,
@@ -85,7 +87,7 @@ pub fn serve_line(
         ),
         Line::Sum(sum, flow) => {
             let until = time + sum * pace;
-            busy[35] = until;
+            busy[LINE] = until;
             Turned::On(Course {
                 flow,
                 deferred: t.deferred,
@@ -101,8 +103,8 @@ pub fn serve(
     standing: u64,
     time: u64,
     pace: u64,
-    window: &mut [u8],
     base: u32,
+    window: &mut [u8],
     table: &mut [u8; 2048],
     majors: &mut [u64; 64],
     pending: &mut [u32; 64],
@@ -115,21 +117,21 @@ pub fn serve(
     ensures { λ r. ⌜ Turns (serve time pace ch) base (lending (length (now (staging .entry)))) standing t r (now (window .entry)) (now (window .exit)) (now (journal .entry)) (now (journal .exit)) (now (table .entry)) (now (table .exit)) (now (majors .entry)) (now (majors .exit)) (now (pending .entry)) (now (pending .exit)) (now (busy .entry)) (now (busy .exit)) ⌝ }
 {
     let c = t.flow;
-    if words::has_bit(channel::csr_of(table, ch), 0) {
+    if words::has_bit(channel::csr_of(table, ch), START) {
         let before = majors[ch];
-        let s = channel::start_loop(c, window, base, table, majors, ch, before, staging, journal);
+        let s = channel::start_loop(c, base, window, table, majors, ch, before, staging, journal);
         return at_step(t, s);
     }
     if !channel::offered(c.erq, standing, pending, ch) {
         return Turned::On(t);
     }
-    if ch == 35 {
+    if ch == LINE {
         return serve_line(
             t,
             time,
             pace,
-            window,
             base,
+            window,
             table,
             majors,
             busy,
@@ -140,8 +142,8 @@ pub fn serve(
     let s = channel::request_loop(
         c,
         standing,
-        window,
         base,
+        window,
         table,
         majors,
         pending,
@@ -158,8 +160,8 @@ pub fn turn(
     standing: u64,
     time: u64,
     pace: u64,
-    window: &mut [u8],
     base: u32,
+    window: &mut [u8],
     table: &mut [u8; 2048],
     majors: &mut [u64; 64],
     pending: &mut [u32; 64],
@@ -196,8 +198,8 @@ pub fn turn(
         standing,
         time,
         pace,
-        window,
         base,
+        window,
         table,
         majors,
         pending,
@@ -224,8 +226,8 @@ pub fn run_dma_inner(
     standing: u64,
     time: u64,
     pace: u64,
-    window: &mut [u8],
     base: u32,
+    window: &mut [u8],
     table: &mut [u8; 2048],
     majors: &mut [u64; 64],
     pending: &mut [u32; 64],
@@ -250,8 +252,8 @@ pub fn run_dma_inner(
             standing,
             time,
             pace,
-            window,
             base,
+            window,
             table,
             majors,
             pending,

@@ -1,12 +1,14 @@
-// The leaves of the engine: sizes, sums of addresses, big-endian words, counts with a link, and masks of 64 bits.
+// The leaves of the engine: sizes, sums of addresses, big-endian words, counts with a link, masks of 64 bits, zeros.
 // Each contract is an equation with a definition of crate `rules` (specs/Words.antt, specs/Bytes.antt). Quoted words are document 01's.
 ghost use mathlib.Core.Path.{_≡_};
-ghost use Prim.Native.Nat.{_+_, _*_, _^_, _≤_, _<_};
-ghost use lib.ListN.{length};
+ghost use mathlib.Core.List.{_++_};
+ghost use Prim.Native.Nat.{_+_, _-_, _*_, _^_, _≤_, _<_, min};
+ghost use lib.ListN.{length, take, drop, replicate};
 ghost use Rattle.rules.specs.Bytes.{bytes, number, part, splice};
 ghost use Rattle.rules.specs.Words.{has, gain, lose, without, lowest, sizeOf, wholes, signed, moduloAdd, linked, countOf, linkOf, recount};
 ghost use Rattle.words.specs.Highest.{highest};
 ghost use Rattle.words.specs.Sizes.{Sized};
+ghost use Rattle.words.specs.Widths.{TableWidth};
 
 // "Size codes 0, 1, 2, 4, 5 mean 1, 2, 4, 16, 32 bytes; 3, 6, 7 mean 1."
 const SIZES: [u32; 8] = [1, 2, 4, 1, 16, 32, 1, 1];
@@ -209,4 +211,51 @@ pub fn highest_bit(x: u64) -> usize
     ensures { λ r. ⌜ (r ≡ highest x) × (r < 64) ⌝ }
 {
     (63 - u64::leading_zeros(x)) as usize
+}
+
+// ---- words of a width that a store can have: where the width is a constant, its arm alone is left
+
+pub fn get_width(s: &[u8], at: usize, width: usize) -> u64
+    requires { ⌜ (at + width ≤ length (now s)) × (TableWidth width) ⌝ }
+    ensures { λ r. ⌜ r ≡ number (part (now (s .entry)) at width) ⌝ }
+{
+    match width {
+        1 => get1(s, at) as u64,
+        2 => get2(s, at) as u64,
+        4 => get4(s, at) as u64,
+        _ => get8(s, at),
+    }
+}
+
+pub fn put_width(s: &mut [u8], at: usize, width: usize, value: u64)
+    requires { ⌜ (at + width ≤ length (now s)) × (TableWidth width) ⌝ }
+    ensures { λ _. ⌜ now (s .exit) ≡ splice (now (s .entry)) at (bytes width value) ⌝ }
+{
+    match width {
+        1 => put1(s, at, (value % 0x100) as u8),
+        2 => put2(s, at, (value % 0x10000) as u16),
+        4 => put4(s, at, (value % 0x100000000) as u32),
+        _ => put8(s, at, value),
+    }
+}
+
+// ---- the lower of two numbers, and zeros
+
+// A function of its own, so that its caller has no branch.
+pub fn least(a: usize, b: usize) -> usize
+    ensures { λ r. ⌜ r ≡ min a b ⌝ }
+{
+    if a < b { a } else { b }
+}
+
+// Zeros from `from` up to `to`; the rest stays.
+pub fn clear(s: &mut [u8], from: usize, to: usize)
+    requires { ⌜ (from ≤ to) × (to ≤ length (now s)) ⌝ }
+    ensures { λ _. ⌜ now (s .exit) ≡ take from (now (s .entry)) ++ replicate (to - from) 0 ++ drop to (now (s .entry)) ⌝ }
+{
+    let mut left = to - from;
+    while 0 < left {
+        left -= 1;
+        s[from + left] = 0;
+    }
 }

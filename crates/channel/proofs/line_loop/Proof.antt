@@ -12,7 +12,7 @@ use Rattle.channel.proofs.line_loop.Statement.{statement}
 use Rattle.channel.proofs.line_loop.Tie as tie
 
 abbrev Inv-loop : tie.InvT-loop
-Inv-loop window₀ base table₀ majors₀ staging₀ journal₀ f₀ sum₀ left₀ window table majors staging journal f sum left =
+Inv-loop base window₀ table₀ majors₀ staging₀ journal₀ f₀ sum₀ left₀ window table majors staging journal f sum left =
     (length window ≡ length window₀)
     × (length staging ≡ length staging₀)
     × (length journal ≡ length journal₀)
@@ -21,7 +21,7 @@ Inv-loop window₀ base table₀ majors₀ staging₀ journal₀ f₀ sum₀ lef
     ≡ go base (lending (length staging₀)) (lineLoop linePasses 0) (world d f₀ window₀ journal₀ table₀ majors₀))
 
 abbrev μ-loop : tie.MeasureT-loop
-μ-loop window₀ base table₀ majors₀ staging₀ journal₀ f₀ sum₀ left₀ window table majors staging journal f sum left =
+μ-loop base window₀ table₀ majors₀ staging₀ journal₀ f₀ sum₀ left₀ window table majors staging journal f sum left =
     left
 
 loop-holds : tie.Need-loop-holds Inv-loop μ-loop

@@ -13,7 +13,7 @@ use Rattle.channel.proofs.request_loop.Statement.{statement}
 use Rattle.channel.proofs.request_loop.Tie as tie
 
 abbrev Inv-loop : tie.InvT-loop
-Inv-loop standing window₀ base table₀ majors₀ pending₀ ch staging₀ journal₀ f₀ left₀ window table majors pending staging journal f left =
+Inv-loop standing base window₀ table₀ majors₀ pending₀ ch staging₀ journal₀ f₀ left₀ window table majors pending staging journal f left =
     (length window ≡ length window₀)
     × (length staging ≡ length staging₀)
     × (length journal ≡ length journal₀)
@@ -22,7 +22,7 @@ Inv-loop standing window₀ base table₀ majors₀ pending₀ ch staging₀ jou
     ≡ go base (lending (length staging₀)) (requestLoop requestPasses ch) (world (withPending d pending₀) f₀ window₀ journal₀ table₀ majors₀))
 
 abbrev μ-loop : tie.MeasureT-loop
-μ-loop standing window₀ base table₀ majors₀ pending₀ ch staging₀ journal₀ f₀ left₀ window table majors pending staging journal f left =
+μ-loop standing base window₀ table₀ majors₀ pending₀ ch staging₀ journal₀ f₀ left₀ window table majors pending staging journal f left =
     left
 
 loop-holds : tie.Need-loop-holds Inv-loop μ-loop

@@ -11,7 +11,7 @@ use Rattle.channel.proofs.start_loop.Statement.{statement}
 use Rattle.channel.proofs.start_loop.Tie as tie
 
 abbrev Inv-loop : tie.InvT-loop
-Inv-loop window₀ base table₀ majors₀ ch before staging₀ journal₀ f₀ left₀ window table majors staging journal f left =
+Inv-loop base window₀ table₀ majors₀ ch before staging₀ journal₀ f₀ left₀ window table majors staging journal f left =
     (length window ≡ length window₀)
     × (length staging ≡ length staging₀)
     × (length journal ≡ length journal₀)
@@ -19,7 +19,7 @@ Inv-loop window₀ base table₀ majors₀ ch before staging₀ journal₀ f₀ 
     ≡ go base (lending (length staging₀)) (startLoop startPasses ch before) (world d f₀ window₀ journal₀ table₀ majors₀))
 
 abbrev μ-loop : tie.MeasureT-loop
-μ-loop window₀ base table₀ majors₀ ch before staging₀ journal₀ f₀ left₀ window table majors staging journal f left =
+μ-loop base window₀ table₀ majors₀ ch before staging₀ journal₀ f₀ left₀ window table majors staging journal f left =
     left
 
 loop-holds : tie.Need-loop-holds Inv-loop μ-loop

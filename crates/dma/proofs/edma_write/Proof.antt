@@ -1,7 +1,7 @@
 -- `dma::edma_write` meets its contract. Assumes nothing.
 use Rattle.dma.proofs.Laws.{write-table, write-none}
 use Rattle.dma_read.proofs.Laws.{in-table}
-use Rattle.intc.proofs.ReadLaws.{within-true}
+use Rattle.masks.proofs.Ranges.{within-true}
 use Rattle.flow.specs.Worlds.{walked}
 use Rattle.rules.specs.Carry.{go}
 use Rattle.rules.specs.Calls.{orNothing}

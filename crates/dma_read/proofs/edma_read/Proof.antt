@@ -1,6 +1,6 @@
 -- `dma_read::edma_read` meets its contract. Assumes nothing.
 use Rattle.dma_read.proofs.Laws.{in-table, read-table, read-no-size}
-use Rattle.intc.proofs.ReadLaws.{within-true}
+use Rattle.masks.proofs.Ranges.{within-true}
 use native.Mathlib.Omega.{arith}
 use mathlib.Core.Path.{sym, _∙_}
 use borrow.Author.Needs.{needs}

@@ -15,19 +15,19 @@ use Rattle.rules.specs.Minor.{gather}
 use Rattle.rules.specs.State.{Device}
 use Rattle.flow.proofs.Laws.{stays-so, told-so}
 use Rattle.flow.specs.Worlds.{told, on}
-use Rattle.journal.proofs.Laws.{at-fits}
+use Rattle.memory.proofs.Laws.{at-fits}
 use Rattle.finish.proofs.Gathering.{gather-outside, gather-inside, gather-end}
 use Rattle.finish.proofs.gather.Statement.{statement}
 use Rattle.finish.proofs.gather.Tie as tie
 
 abbrev Inv-loop : tie.InvT-loop
-Inv-loop s window base from next₀ c i₀ next i =
+Inv-loop s base window from next₀ c i₀ next i =
     (i ≤ 32)
     × (length next ≡ 32)
     × ((lent : Lent) (d : Device) (j t m : List ℕ) (k : List ℕ → Act (Unit {0})) → on base lent (gather (32 - i) (from + i) (take i next) >>= k) (told s d window j t m) ≡ on base lent (gather 32 from [] >>= k) (told s d window j t m))
 
 abbrev μ-loop : tie.MeasureT-loop
-μ-loop s window base from next₀ c i₀ next i = 32 - i
+μ-loop s base window from next₀ c i₀ next i = 32 - i
 
 enum-known-s : tie.Need-enum-known-s Inv-loop μ-loop
 enum-known-s c = search needs

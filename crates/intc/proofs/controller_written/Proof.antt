@@ -1,6 +1,6 @@
 -- `intc::controller_written` meets its contract. One case law for each range of offsets, with the act on one controller. Assumes nothing.
 use Rattle.intc.proofs.WriteLaws.{written-some, written-as, masks-in, forced-in, levels-in, nothing-in, write-pending, write-masks, write-forced, write-levels, write-command}
-use Rattle.intc.proofs.ReadLaws.{within-true}
+use Rattle.masks.proofs.Ranges.{within-true}
 use Rattle.rules.proofs.BytesLaws.{bytes-bytes}
 use Rattle.rules.specs.Registers.{withBytesIn, levelsWrite}
 use Rattle.rules.specs.Bytes.{bytes}

@@ -1,5 +1,6 @@
 -- `intc::read_byte` meets its contract. One case law for each answer. Assumes nothing.
-use Rattle.intc.proofs.ReadLaws.{within-true, read-level, read-command, read-no-byte}
+use Rattle.masks.proofs.Ranges.{within-true}
+use Rattle.intc.proofs.ReadLaws.{read-level, read-command, read-no-byte}
 use native.Mathlib.Omega.{arith}
 use mathlib.Core.Path.{_∙_, sym}
 use borrow.Author.Needs.{needs}

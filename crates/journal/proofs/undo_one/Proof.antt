@@ -1,6 +1,7 @@
 -- `journal::undo_one` meets its contract: another kind, width or place is passed over; else the old value is laid back. Assumes nothing.
 use Rattle.journal.proofs.UndoLaws.{other-kind, other-width, other-place, laid-back}
-use Rattle.journal.proofs.Laws.{memory-width, table-width, at-fits}
+use Rattle.memory.proofs.Laws.{at-fits}
+use Rattle.journal.proofs.Laws.{memory-width, table-width}
 use native.Mathlib.Omega.{arith}
 use mathlib.Core.Path.{sym, _∙_}
 use borrow.Author.Tests.{not-false}

@@ -10,11 +10,11 @@ use Rattle.journal.proofs.undo_window.Statement.{statement}
 use Rattle.journal.proofs.undo_window.Tie as tie
 
 abbrev Inv-loop : tie.InvT-loop
-Inv-loop window₀ base journal from to count done₀ window done =
+Inv-loop base window₀ journal from to count done₀ window done =
     (done ≤ count) × (undoLines base (count - done) (drop from journal) window ≡ undoLines base count (drop from journal) window₀) × (length window ≡ length window₀)
 
 abbrev μ-loop : tie.MeasureT-loop
-μ-loop window₀ base journal from to count done₀ window done = count - done
+μ-loop base window₀ journal from to count done₀ window done = count - done
 
 sub-count : tie.Need-sub-count Inv-loop μ-loop
 sub-count c = omega arith
@@ -47,7 +47,7 @@ loop-again : tie.Need-loop-again Inv-loop μ-loop
 loop-again c =
     let one = c .before .before in
     let loop = one .before .before .before in
-    (omega arith, undo-turn _ _ _ _ _ _ (omega arith) (omega arith) (one .undo-one .ensures) ∙ loop .loop .inv .1, omega (arith, one .undo-one .kept .0))
+    (omega arith, undo-turn _ _ _ _ _ _ (omega arith) (omega arith) (one .undo-one .ensures) ∙ loop .loop .inv .1, omega (arith, one .undo-one .kept .1 .0))
 
 same-length : tie.Need-same-length Inv-loop μ-loop
 same-length c = omega arith

@@ -12,13 +12,13 @@ use Rattle.mover.proofs.move_bursts.Statement.{statement}
 use Rattle.mover.proofs.move_bursts.Tie as tie
 
 abbrev Inv-loop : tie.InvT-loop
-Inv-loop window₀ base size count step from to journal₀ at units s₀ d₀ end₀ left₀ window journal s d end left =
+Inv-loop base window₀ size count step from to journal₀ at units s₀ d₀ end₀ left₀ window journal s d end left =
     (length window ≡ length window₀)
     × (length journal ≡ length journal₀)
     × Remains base (moveSizes left (step .soff) (step .smod) (step .doff) (step .dmod) size s d) end window journal (moveSizes count (step .soff) (step .smod) (step .doff) (step .dmod) size from to) at window₀ journal₀
 
 abbrev μ-loop : tie.MeasureT-loop
-μ-loop window₀ base size count step from to journal₀ at units s₀ d₀ end₀ left₀ window journal s d end left = left
+μ-loop base window₀ size count step from to journal₀ at units s₀ d₀ end₀ left₀ window journal s d end left = left
 
 loop-holds : tie.Need-loop-holds Inv-loop μ-loop
 loop-holds c = (refl, refl, λ lent d. refl)

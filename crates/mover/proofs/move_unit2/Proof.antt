@@ -1,6 +1,6 @@
 -- `mover::move_unit2` meets its contract, by where the unit is read: the laws of a unit at width 2. Assumes nothing.
 use borrow.Author.Needs.{needs}
-use Rattle.journal.proofs.Laws.{at-fits}
+use Rattle.memory.proofs.Laws.{at-fits}
 use Rattle.mover.proofs.Laws.{unit-outside, unit-read}
 use Rattle.mover.proofs.move_unit2.Statement.{statement}
 use Rattle.mover.proofs.move_unit2.Tie as tie

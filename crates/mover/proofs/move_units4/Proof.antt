@@ -14,14 +14,14 @@ use Rattle.mover.proofs.move_units4.Statement.{statement}
 use Rattle.mover.proofs.move_units4.Tie as tie
 
 abbrev Inv-loop : tie.InvT-loop
-Inv-loop window₀ base count from to journal₀ at end₀ k₀ window journal end k =
+Inv-loop base window₀ count from to journal₀ at end₀ k₀ window journal end k =
     (k ≤ count)
     × (length window ≡ length window₀)
     × (length journal ≡ length journal₀)
     × Remains base (moveUnits (count - k) k 4 from to) end window journal (moveUnits count 0 4 from to) at window₀ journal₀
 
 abbrev μ-loop : tie.MeasureT-loop
-μ-loop window₀ base count from to journal₀ at end₀ k₀ window journal end k = count - k
+μ-loop base window₀ count from to journal₀ at end₀ k₀ window journal end k = count - k
 
 loop-holds : tie.Need-loop-holds Inv-loop μ-loop
 loop-holds c = (omega arith, refl, refl, λ lent d. rw sub-zero)

@@ -1,5 +1,5 @@
 -- `registers::block_of` meets its contract. Assumes nothing.
-use Rattle.intc.proofs.ReadLaws.{within-true}
+use Rattle.masks.proofs.Ranges.{within-true}
 use Rattle.rules.specs.Registers.{inBlocks, blockOf}
 use native.Mathlib.Omega.{arith}
 use mathlib.Core.Path.{refl}

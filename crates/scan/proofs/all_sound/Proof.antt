@@ -1,7 +1,7 @@
 -- `scan::all_sound` meets its contract. The records' invariant: whether those that are left are sound decides. The bytes' invariant: the value is
 -- the number that its bytes from the next on spell. Assumes nothing.
 use Rattle.scan.proofs.Laws.{leftSound, any-device, zero-turn, zeros-all, some-here, none-left, all-left, head-damaged, value-damaged, record-sound, wide-most}
-use Rattle.journal.specs.Places.{holding}
+use Rattle.memory.specs.Places.{holding}
 use Rattle.rules.specs.TakeBack.{allSound}
 use Rattle.rules.specs.Bytes.{number, part}
 use borrow.Author.Needs.{needs}

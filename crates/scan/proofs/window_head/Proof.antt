@@ -1,7 +1,7 @@
 -- `scan::window_head` meets its contract: a wrong width, a place outside, and neither. Assumes nothing.
 use borrow.Author.Tests.{not-true, not-false}
 use mathlib.Core.Path.{sym, _∙_}
-use Rattle.journal.proofs.Laws.{not-inside, inside}
+use Rattle.memory.proofs.Laws.{not-inside, inside}
 use Rattle.scan.proofs.HeadLaws.{legal-most, wrong-width, outside, wide}
 use borrow.Author.Needs.{needs}
 use Rattle.scan.proofs.window_head.Statement.{statement}

@@ -15,13 +15,13 @@ use Rattle.stager.proofs.read_bursts.Statement.{statement}
 use Rattle.stager.proofs.read_bursts.Tie as tie
 
 abbrev Inv-loop : tie.InvT-loop
-Inv-loop window base size count soff smod from staging₀ units s₀ len₀ left₀ staging s len left =
+Inv-loop base window size count soff smod from staging₀ units s₀ len₀ left₀ staging s len left =
     (length staging ≡ length staging₀)
     × (len + left * size ≡ count * size)
     × Rests base window (readSizes left soff smod size s (take len staging)) (readSizes count soff smod size from [])
 
 abbrev μ-loop : tie.MeasureT-loop
-μ-loop window base size count soff smod from staging₀ units s₀ len₀ left₀ staging s len left = left
+μ-loop base window size count soff smod from staging₀ units s₀ len₀ left₀ staging s len left = left
 
 loop-holds : tie.Need-loop-holds Inv-loop μ-loop
 loop-holds c = (refl, omega arith, λ lent d j e. refl)

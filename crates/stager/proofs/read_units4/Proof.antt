@@ -13,14 +13,14 @@ use Rattle.stager.proofs.read_units4.Statement.{statement}
 use Rattle.stager.proofs.read_units4.Tie as tie
 
 abbrev Inv-loop : tie.InvT-loop
-Inv-loop window base count from staging₀ len end₀ k₀ staging end k =
+Inv-loop base window count from staging₀ len end₀ k₀ staging end k =
     (k ≤ count)
     × (length staging ≡ length staging₀)
     × (end ≡ len + k * 4)
     × Rests base window (readUnits (count - k) k 4 from (take end staging)) (readUnits count 0 4 from (take len staging₀))
 
 abbrev μ-loop : tie.MeasureT-loop
-μ-loop window base count from staging₀ len end₀ k₀ staging end k = count - k
+μ-loop base window count from staging₀ len end₀ k₀ staging end k = count - k
 
 loop-holds : tie.Need-loop-holds Inv-loop μ-loop
 loop-holds c = (omega arith, refl, omega arith, λ lent d j e. rw sub-zero)

@@ -14,14 +14,14 @@ use Rattle.stager.proofs.write_bursts.Statement.{statement}
 use Rattle.stager.proofs.write_bursts.Tie as tie
 
 abbrev Inv-loop : tie.InvT-loop
-Inv-loop window₀ base size count doff dmod to staging journal₀ at units d₀ pos₀ end₀ left₀ window journal d pos end left =
+Inv-loop base window₀ size count doff dmod to staging journal₀ at units d₀ pos₀ end₀ left₀ window journal d pos end left =
     (length window ≡ length window₀)
     × (length journal ≡ length journal₀)
     × (pos + left * size ≡ count * size)
     × Remains base (writeSizes left doff dmod size d staging pos) end window journal (writeSizes count doff dmod size to staging 0) at window₀ journal₀
 
 abbrev μ-loop : tie.MeasureT-loop
-μ-loop window₀ base size count doff dmod to staging journal₀ at units d₀ pos₀ end₀ left₀ window journal d pos end left = left
+μ-loop base window₀ size count doff dmod to staging journal₀ at units d₀ pos₀ end₀ left₀ window journal d pos end left = left
 
 loop-holds : tie.Need-loop-holds Inv-loop μ-loop
 loop-holds c = (refl, refl, omega arith, λ lent d. refl)

@@ -14,14 +14,14 @@ use Rattle.stager.proofs.write_units4.Statement.{statement}
 use Rattle.stager.proofs.write_units4.Tie as tie
 
 abbrev Inv-loop : tie.InvT-loop
-Inv-loop window₀ base count to staging pos journal₀ at end₀ k₀ window journal end k =
+Inv-loop base window₀ count to staging pos journal₀ at end₀ k₀ window journal end k =
     (k ≤ count)
     × (length window ≡ length window₀)
     × (length journal ≡ length journal₀)
     × Remains base (writeUnits (count - k) k 4 to staging pos) end window journal (writeUnits count 0 4 to staging pos) at window₀ journal₀
 
 abbrev μ-loop : tie.MeasureT-loop
-μ-loop window₀ base count to staging pos journal₀ at end₀ k₀ window journal end k = count - k
+μ-loop base window₀ count to staging pos journal₀ at end₀ k₀ window journal end k = count - k
 
 loop-holds : tie.Need-loop-holds Inv-loop μ-loop
 loop-holds c = (omega arith, refl, refl, λ lent d. rw sub-zero)

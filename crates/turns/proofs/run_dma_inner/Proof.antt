@@ -11,7 +11,7 @@ use Rattle.turns.proofs.run_dma_inner.Statement.{statement}
 use Rattle.turns.proofs.run_dma_inner.Tie as tie
 
 abbrev Inv-loop : tie.InvT-loop
-Inv-loop standing time pace window₀ base table₀ majors₀ pending₀ busy₀ staging₀ journal₀ s₀ left₀ window table majors pending busy staging journal s left =
+Inv-loop standing time pace base window₀ table₀ majors₀ pending₀ busy₀ staging₀ journal₀ s₀ left₀ window table majors pending busy staging journal s left =
     (length window ≡ length window₀)
     × (length staging ≡ length staging₀)
     × (length journal ≡ length journal₀)
@@ -20,7 +20,7 @@ Inv-loop standing time pace window₀ base table₀ majors₀ pending₀ busy₀
     ≡ go base (lending (length staging₀)) (runAll time pace) (turning d s₀ window₀ journal₀ table₀ majors₀ pending₀ busy₀))
 
 abbrev μ-loop : tie.MeasureT-loop
-μ-loop standing time pace window₀ base table₀ majors₀ pending₀ busy₀ staging₀ journal₀ s₀ left₀ window table majors pending busy staging journal s left =
+μ-loop standing time pace base window₀ table₀ majors₀ pending₀ busy₀ staging₀ journal₀ s₀ left₀ window table majors pending busy staging journal s left =
     left
 
 loop-holds : tie.Need-loop-holds Inv-loop μ-loop

@@ -1,9 +1,9 @@
--- `journal::where_is` meets its contract: below the window, past it, in it. Assumes nothing.
-use Rattle.journal.proofs.Laws.{place-below, place-past, place-in}
+-- `memory::where_is` meets its contract: below the window, past it, in it. Assumes nothing.
+use Rattle.memory.proofs.Laws.{place-below, place-past, place-in}
 use native.Mathlib.Omega.{arith}
 use borrow.Author.Needs.{needs}
-use Rattle.journal.proofs.where_is.Statement.{statement}
-use Rattle.journal.proofs.where_is.Tie as tie
+use Rattle.memory.proofs.where_is.Statement.{statement}
+use Rattle.memory.proofs.where_is.Tie as tie
 
 returns : tie.Need-returns
 returns c = place-below _ _ _ _ (omega arith)

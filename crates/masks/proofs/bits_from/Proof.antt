@@ -1,12 +1,12 @@
--- `controllers::bits_from` meets its contract. A shifted one is a power of two, so that the remainder is that of `bitsFrom`. Assumes
+-- `masks::bits_from` meets its contract. A shifted one is a power of two, so that the remainder is that of `bitsFrom`. Assumes
 -- nothing.
 use mathlib.Core.Path.{refl}
-use Rattle.controllers.proofs.MaskParts.{bits-lt}
+use Rattle.masks.proofs.BitLaws.{bits-lt}
 use Rattle.rules.specs.Lines.{bitsFrom}
 use Rattle.rules.proofs.Powers.{one-shl, shl-pos}
 use borrow.Author.Needs.{needs}
-use Rattle.controllers.proofs.bits_from.Statement.{statement}
-use Rattle.controllers.proofs.bits_from.Tie as tie
+use Rattle.masks.proofs.bits_from.Statement.{statement}
+use Rattle.masks.proofs.bits_from.Tie as tie
 
 shr-result : tie.Need-shr-result
 shr-result c = search needs

@@ -1,9 +1,9 @@
--- `journal::put_width` meets its contract: each arm lays down the low bytes of its width. Assumes nothing.
-use Rattle.journal.proofs.Laws.{eight, put-low}
+-- `words::put_width` meets its contract: each arm lays down the low bytes of its width. Assumes nothing.
+use Rattle.words.proofs.Wide.{eight, put-low}
 use native.Mathlib.Omega.{arith}
 use borrow.Author.Needs.{needs}
-use Rattle.journal.proofs.put_width.Statement.{statement}
-use Rattle.journal.proofs.put_width.Tie as tie
+use Rattle.words.proofs.put_width.Statement.{statement}
+use Rattle.words.proofs.put_width.Tie as tie
 
 cast-put1 : tie.Need-cast-put1
 cast-put1 c = search needs

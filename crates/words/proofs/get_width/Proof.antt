@@ -1,9 +1,9 @@
--- `journal::get_width` meets its contract: each arm is the number of its width. Assumes nothing.
-use Rattle.journal.proofs.Laws.{eight}
+-- `words::get_width` meets its contract: each arm is the number of its width. Assumes nothing.
+use Rattle.words.proofs.Wide.{eight}
 use native.Mathlib.Omega.{arith}
 use borrow.Author.Needs.{needs}
-use Rattle.journal.proofs.get_width.Statement.{statement}
-use Rattle.journal.proofs.get_width.Tie as tie
+use Rattle.words.proofs.get_width.Statement.{statement}
+use Rattle.words.proofs.get_width.Tie as tie
 
 get1-requires : tie.Need-get1-requires
 get1-requires c κs = search needs

@@ -5,8 +5,8 @@ use Prim.Native.Nat.{ℕ}
 use Rattle.rules.specs.Act.{window}
 use Rattle.rules.specs.Calls.{fresh}
 use Rattle.rules.specs.Carry.{Machine, there, indexOf}
-use Rattle.journal.specs.declared.Place.{Place}
-use Rattle.journal.specs.declared.Place.the-variants.{At, Outside}
+use Rattle.memory.specs.declared.Place.{Place}
+use Rattle.memory.specs.declared.Place.the-variants.{At, Outside}
 
 -- a machine with this window; which device it has makes no difference to a place in memory
 unfoldable pub holding : List ℕ → Machine

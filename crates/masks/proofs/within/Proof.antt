@@ -1,8 +1,8 @@
--- `intc::within` meets its contract. One line for each side of `&&`. Assumes nothing.
+-- `masks::within` meets its contract. One line for each side of `&&`. Assumes nothing.
 use Rattle.rules.specs.Registers.{within}
 use borrow.Author.Tests.{le-leb, lt-leb}
-use Rattle.intc.proofs.within.Statement.{statement}
-use Rattle.intc.proofs.within.Tie as tie
+use Rattle.masks.proofs.within.Statement.{statement}
+use Rattle.masks.proofs.within.Tie as tie
 
 returns : tie.Need-returns
 unfolding within

@@ -1,12 +1,12 @@
--- `intc::bytes_in` meets its contract. Bytes are bits (`RegisterBytes`). Assumes nothing.
-use Rattle.intc.proofs.RegisterBytes.{bytes-bits}
+-- `masks::bytes_in` meets its contract. Bytes are bits (`RegisterBytes`). Assumes nothing.
+use Rattle.masks.proofs.RegisterBytes.{bytes-bits}
 use lib.Pow.{pow-mono}
 use native.Mathlib.Omega.{arith}
 use native.Mathlib.Nat.{lt-of-lt-of-le}
 use mathlib.Core.Path.{_∙_, sym}
 use borrow.Author.Needs.{needs}
-use Rattle.intc.proofs.bytes_in.Statement.{statement}
-use Rattle.intc.proofs.bytes_in.Tie as tie
+use Rattle.masks.proofs.bytes_in.Statement.{statement}
+use Rattle.masks.proofs.bytes_in.Tie as tie
 
 add-bits-from : tie.Need-add-bits-from
 add-bits-from c = search needs

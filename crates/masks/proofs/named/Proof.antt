@@ -1,11 +1,11 @@
--- `intc::named` meets its contract. By cases on bit 6. Assumes nothing.
+-- `masks::named` meets its contract. By cases on bit 6. Assumes nothing.
 use Rattle.rules.specs.Words.{gain}
 use Rattle.rules.specs.Registers.{named}
 use mathlib.Core.Path.{_∙_, sym}
 use lib.Bits.{or-zero-l}
 use borrow.Author.Needs.{needs}
-use Rattle.intc.proofs.named.Statement.{statement}
-use Rattle.intc.proofs.named.Tie as tie
+use Rattle.masks.proofs.named.Statement.{statement}
+use Rattle.masks.proofs.named.Tie as tie
 
 has-bit-requires : tie.Need-has-bit-requires
 has-bit-requires c κs = search needs

@@ -1,9 +1,9 @@
--- `intc::with_bytes_in` meets its contract. Bytes are bits (`RegisterBytes`). Assumes nothing.
-use Rattle.intc.proofs.RegisterBytes.{with-bytes-bits}
+-- `masks::with_bytes_in` meets its contract. Bytes are bits (`RegisterBytes`). Assumes nothing.
+use Rattle.masks.proofs.RegisterBytes.{with-bytes-bits}
 use mathlib.Core.Path.{_∙_, sym}
 use borrow.Author.Needs.{needs}
-use Rattle.intc.proofs.with_bytes_in.Statement.{statement}
-use Rattle.intc.proofs.with_bytes_in.Tie as tie
+use Rattle.masks.proofs.with_bytes_in.Statement.{statement}
+use Rattle.masks.proofs.with_bytes_in.Tie as tie
 
 mul-bits-from : tie.Need-mul-bits-from
 mul-bits-from c = search needs

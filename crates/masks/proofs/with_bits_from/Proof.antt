@@ -1,9 +1,9 @@
--- `controllers::with_bits_from` meets its contract. The bits that are there go, and the new ones come: what is left fits 64 bits. Assumes
+-- `masks::with_bits_from` meets its contract. The bits that are there go, and the new ones come: what is left fits 64 bits. Assumes
 -- nothing.
-use Rattle.controllers.proofs.MaskParts.{old-le, replaced, replaced-fits}
+use Rattle.masks.proofs.BitLaws.{old-le, replaced, replaced-fits}
 use borrow.Author.Needs.{needs}
-use Rattle.controllers.proofs.with_bits_from.Statement.{statement}
-use Rattle.controllers.proofs.with_bits_from.Tie as tie
+use Rattle.masks.proofs.with_bits_from.Statement.{statement}
+use Rattle.masks.proofs.with_bits_from.Tie as tie
 
 bits-from-requires : tie.Need-bits-from-requires
 bits-from-requires c κs = search needs

@@ -1,12 +1,12 @@
--- `journal::clear` meets its contract. The loop's invariant: behind the bytes that are left all is zero up to `to`. Assumes nothing.
-use Rattle.journal.proofs.UndoLaws.{zeros-none, zeros-turn, zeros-all}
+-- `words::clear` meets its contract. The loop's invariant: behind the bytes that are left all is zero up to `to`. Assumes nothing.
+use Rattle.words.proofs.Wide.{zeros-none, zeros-turn, zeros-all}
 use lib.ListN.{length, replicate, length-set}
 use Prim.Native.Nat.{_+_, _-_, _≤_}
 use mathlib.Core.Path.{_≡_, refl}
 use Rattle.rules.specs.Bytes.{splice}
 use native.Mathlib.Omega.{arith}
-use Rattle.journal.proofs.clear.Statement.{statement}
-use Rattle.journal.proofs.clear.Tie as tie
+use Rattle.words.proofs.clear.Statement.{statement}
+use Rattle.words.proofs.clear.Tie as tie
 
 abbrev Inv-loop : tie.InvT-loop
 Inv-loop s₀ from to left₀ s left =
