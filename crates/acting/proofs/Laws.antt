@@ -28,10 +28,10 @@ use Rattle.rules.proofs.Keeps.{AtEnd}
 use Rattle.rules.proofs.Spares.{sparing, SameArrays, spares}
 use Rattle.rules.proofs.Steps.{then-ok, then-no}
 use Rattle.rules.proofs.Typed.{Typed}
-use Rattle.flow.specs.Does.{Answers, Does}
-use Rattle.flow.specs.Worlds.{walked}
-use Rattle.flow.specs.declared.Walk.{Walk}
-use Rattle.flow.specs.declared.Walk.the-variants.{On, Off}
+use Rattle.act.specs.Does.{Answers, Does}
+use Rattle.act.specs.Worlds.{walked}
+use Rattle.act.specs.declared.Walk.{Walk}
+use Rattle.act.specs.declared.Walk.the-variants.{On, Off}
 use Rattle.closing.specs.Closes.{heldAt, closed, Closes, SparedOf}
 use Rattle.closing.specs.declared.Noted.{Noted}
 use Rattle.closing.specs.declared.Noted.the-variants.{At, Full}

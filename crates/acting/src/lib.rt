@@ -1,8 +1,8 @@
 // The end of a call that is an act: refused before anything is done, refused on the way, or accepted.
+use act::Walk;
 use closing::Noted;
 use closing::Touched;
 use dma_commands::Reached;
-use flow::Walk;
 use rules::Acted;
 use rules::Device;
 use rules::Refusal;

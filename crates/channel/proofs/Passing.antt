@@ -22,10 +22,10 @@ use Rattle.rules.specs.State.{Device}
 use Rattle.rules.specs.declared.Refusal.{Refusal}
 use Rattle.rules.specs.declared.Refusal.the-variants as Refusal
 use Rattle.rules.proofs.Steps.{bind-ok, bind-no, putting}
-use Rattle.flow.specs.Worlds.{world, told}
-use Rattle.flow.specs.declared.Flow.{Flow}
-use Rattle.flow.specs.declared.Step.{Step}
-use Rattle.flow.specs.declared.Step.the-variants.{Going, Refused}
+use Rattle.act.specs.Worlds.{world, told}
+use Rattle.act.specs.declared.Flow.{Flow}
+use Rattle.act.specs.declared.Step.{Step}
+use Rattle.act.specs.declared.Step.the-variants.{Going, Refused}
 use Rattle.minor.specs.Passes.{passed, Passes}
 use Rattle.minor.specs.declared.Passed.{Passed}
 use Rattle.minor.specs.declared.Passed.the-variants.{Idle, Ran}

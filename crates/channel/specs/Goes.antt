@@ -7,10 +7,10 @@ use Rattle.rules.specs.Calls.{refusalNumber}
 use Rattle.rules.specs.Carry.{Out, ok, no, go, Lent}
 use Rattle.rules.specs.With.{withPending}
 use Rattle.rules.specs.State.{Device}
-use Rattle.flow.specs.Worlds.{world, told}
-use Rattle.flow.specs.declared.Flow.{Flow}
-use Rattle.flow.specs.declared.Step.{Step}
-use Rattle.flow.specs.declared.Step.the-variants as Step
+use Rattle.act.specs.Worlds.{world, told}
+use Rattle.act.specs.declared.Flow.{Flow}
+use Rattle.act.specs.declared.Step.{Step}
+use Rattle.act.specs.declared.Step.the-variants as Step
 use Rattle.channel.specs.declared.Line.{Line}
 use Rattle.channel.specs.declared.Line.the-variants.{Sum, Broken}
 

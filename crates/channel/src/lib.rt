@@ -2,8 +2,8 @@
 // Each contract says that the function does the steps of its tree (crate `rules`, specs/Run.antt), whatever the rest of the device is.
 // The numbers of passes are those of the trees. Those of START and of channel 35 never decide, by a theorem there (proofs/Ends); that of a channel that
 // requests, 1,048,577, is document 01's own and does.
-use flow::Flow;
-use flow::Step;
+use act::Flow;
+use act::Step;
 use minor::Passed;
 use rules::DONE;
 use rules::LINE;

@@ -24,8 +24,8 @@ use Rattle.rules.specs.Lines.{driven, sources, levelBytes, levelOf, relevel, ab
 use Rattle.rules.proofs.BytesLaws.{length-part, getD-part}
 use Rattle.rules.proofs.FieldLaws.{in-three, Sound, sized, holds-fits}
 use Rattle.rules.proofs.ViewLaws.{map-set, noHeld, controller-viewed}
-use Rattle.flow.specs.Does.{Answers, Does}
-use Rattle.flow.proofs.DoesLaws.{answers-done, answers-ask, answers-bind, answers-then, does-put, does-change}
+use Rattle.act.specs.Does.{Answers, Does}
+use Rattle.act.proofs.DoesLaws.{answers-done, answers-ask, answers-bind, answers-then, does-put, does-change}
 use Rattle.controllers.proofs.MaskParts.{driven-fits}
 use Rattle.controllers.specs.Levels.{sourcesOf, levelIn, drivenIn, controllersIn, highestIn, loudIn}
 

@@ -22,8 +22,8 @@ use Rattle.rules.specs.declared.Controller.{Controller as HeldController}
 use Rattle.rules.specs.declared.Device.{Device as HeldDevice}
 use Rattle.rules.proofs.FieldLaws.{in-three, Sound, holds-fits}
 use Rattle.rules.proofs.ViewLaws.{noHeld, controller-viewed}
-use Rattle.flow.specs.Does.{Answers, Does}
-use Rattle.flow.proofs.DoesLaws.{answers-done, answers-ask, answers-bind, answers-then, does-put, does-change}
+use Rattle.act.specs.Does.{Answers, Does}
+use Rattle.act.proofs.DoesLaws.{answers-done, answers-ask, answers-bind, answers-then, does-put, does-change}
 use Rattle.controllers.specs.Waiting.{waitingIn}
 use Rattle.controllers.proofs.MaskParts.{owned-fits}
 use Rattle.controllers.proofs.DeviceLaws.{stored3, stored-viewed, with3}

@@ -15,7 +15,7 @@ ghost use Rattle.rules.specs.Calls.{setInputs, setPending};
 ghost use Rattle.rules.specs.Run.{requesting};
 ghost use Rattle.rules.specs.With.{withLines};
 ghost use Rattle.rules.specs.Words.{gain};
-ghost use Rattle.flow.specs.Does.{Answers, Does};
+ghost use Rattle.act.specs.Does.{Answers, Does};
 ghost use Rattle.controllers.specs.Levels.{sourcesOf, levelIn, controllersIn, highestIn, loudIn, found, saidBy, over};
 ghost use Rattle.controllers.specs.Waiting.{waitingIn};
 

@@ -17,12 +17,12 @@ use Rattle.rules.specs.Fields.{bitsOf, holds, withField}
 use Rattle.rules.specs.Registers.{within, inTable, command, tableWrite, pick, dmaArms, dmaWrite}
 use Rattle.rules.specs.Minor.{START}
 use Rattle.rules.specs.Words.{has, gain}
-use Rattle.flow.specs.Does.{Does}
-use Rattle.flow.specs.Worlds.{told, walked, on}
-use Rattle.flow.specs.declared.Step.{Step}
-use Rattle.flow.specs.declared.Walk.the-variants.{On}
-use Rattle.flow.proofs.DoesLaws.{does-change}
-use Rattle.flow.proofs.Laws.{then, fetched}
+use Rattle.act.specs.Does.{Does}
+use Rattle.act.specs.Worlds.{told, walked, on}
+use Rattle.act.specs.declared.Step.{Step}
+use Rattle.act.specs.declared.Walk.the-variants.{On}
+use Rattle.act.proofs.DoesLaws.{does-change}
+use Rattle.act.proofs.Laws.{then, fetched}
 use Rattle.masks.proofs.Ranges.{never}
 use Rattle.dma.specs.Started.{startsIn}
 use Rattle.words.specs.Widths.{TableWidth}

@@ -1,6 +1,6 @@
 // The DMA registers and the descriptor table, written.
+use act::Walk;
 use dma_commands::Reached;
-use flow::Walk;
 use rules::Device;
 use rules::START;
 ghost use mathlib.Core.Path.{_≡_};
@@ -10,7 +10,7 @@ ghost use lib.ListN.{length, drop};
 ghost use Rattle.rules.specs.View.{view};
 ghost use Rattle.rules.specs.Calls.{badSize, isNone, orNothing};
 ghost use Rattle.rules.specs.Registers.{inTable, tableWrite, pick, dmaArms, dmaWrite};
-ghost use Rattle.flow.specs.Does.{Does};
+ghost use Rattle.act.specs.Does.{Does};
 ghost use Rattle.dma_commands.specs.Reaching.{Reaches};
 ghost use Rattle.dma_read.specs.Access.{Fair};
 ghost use Rattle.dma.specs.Started.{startsIn};

@@ -20,14 +20,14 @@ use Rattle.rules.specs.Run.{requesting}
 use Rattle.rules.specs.With.{withErq, withKick}
 use Rattle.rules.specs.Words.{has, without}
 use Rattle.rules.proofs.Masks.{without-le}
-use Rattle.flow.specs.Does.{Answers, Does}
-use Rattle.flow.specs.Worlds.{told, walked, on}
-use Rattle.flow.specs.declared.Step.{Step}
-use Rattle.flow.specs.declared.Walk.{Walk}
-use Rattle.flow.specs.declared.Walk.the-variants.{On, Off}
-use Rattle.flow.proofs.DoesLaws.{answers-bind, answers-then, does-change}
+use Rattle.act.specs.Does.{Answers, Does}
+use Rattle.act.specs.Worlds.{told, walked, on}
+use Rattle.act.specs.declared.Step.{Step}
+use Rattle.act.specs.declared.Walk.{Walk}
+use Rattle.act.specs.declared.Walk.the-variants.{On, Off}
+use Rattle.act.proofs.DoesLaws.{answers-bind, answers-then, does-change}
 use Rattle.dma_commands.specs.Reaching.{flagged}
-use Rattle.flow.proofs.Laws.{on-then, then, on-nothing, fetched}
+use Rattle.act.proofs.Laws.{on-then, then, on-nothing, fetched}
 
 -- ---- masks
 

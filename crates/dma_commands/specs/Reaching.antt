@@ -10,9 +10,9 @@ use Rattle.rules.specs.Minor.{START, DONE}
 use Rattle.rules.specs.Words.{gain, lose}
 use Rattle.rules.specs.State.{Device}
 use Rattle.rules.specs.View.{view}
-use Rattle.flow.specs.Worlds.{told, walked, on}
-use Rattle.flow.specs.declared.Step.{Step}
-use Rattle.flow.specs.declared.Walk.the-variants.{On}
+use Rattle.act.specs.Worlds.{told, walked, on}
+use Rattle.act.specs.declared.Step.{Step}
+use Rattle.act.specs.declared.Walk.the-variants.{On}
 use Rattle.dma_commands.specs.declared.Reached.{Reached}
 
 -- what a flag command does to a descriptor's last byte

@@ -1,7 +1,7 @@
 // The command bytes of the DMA registers, 0x18 to 0x1F: what each does to the device and to the journal.
-use flow::Flow;
-use flow::Step;
-use flow::Walk;
+use act::Flow;
+use act::Step;
+use act::Walk;
 use rules::DONE;
 use rules::Device;
 use rules::START;
@@ -12,8 +12,8 @@ ghost use lib.Bits.{bitOr};
 ghost use Rattle.rules.specs.View.{view};
 ghost use Rattle.rules.specs.Act.{change, when, KICK};
 ghost use Rattle.rules.specs.Registers.{flagOne, flagEach, setRequests, setStarts, clearDones, command, commands};
-ghost use Rattle.flow.specs.Does.{Does};
-ghost use Rattle.flow.specs.Worlds.{OnTable};
+ghost use Rattle.act.specs.Does.{Does};
+ghost use Rattle.act.specs.Worlds.{OnTable};
 ghost use Rattle.dma_commands.specs.Reaching.{flagged, Begins, Keeps, Reaches, OnReached};
 
 // How far a write came, and the device then: on, with the journal's end, or off for want of room, and then nothing more happens.

@@ -21,8 +21,8 @@ use Rattle.rules.specs.declared.Verdict.{Verdict}
 use Rattle.rules.proofs.BoolLaws.{neither}
 use Rattle.rules.proofs.CallLaws.{passed, window-fits}
 use Rattle.rules.proofs.Steps.{bind-ok, then-ok, ask-does, put-does, change-does}
-use Rattle.flow.specs.Does.{beside, Answers}
-use Rattle.flow.specs.Worlds.{over}
+use Rattle.act.specs.Does.{beside, Answers}
+use Rattle.act.specs.Worlds.{over}
 use Rattle.closing.specs.declared.Small.{Small}
 use Rattle.controllers.specs.Waiting.{waitingIn}
 use Rattle.controllers.proofs.InputLaws.{requesting-answers}

@@ -24,8 +24,8 @@ use Rattle.rules.proofs.Keeps.{AtEnd, Good}
 use Rattle.rules.proofs.Steps.{then-ok, then-no, go-done, leave-refused}
 use Rattle.rules.proofs.Took.{Underway, go-underway}
 use Rattle.rules.proofs.Undo.{asIn}
-use Rattle.flow.specs.Does.{Answers, Does}
-use Rattle.flow.specs.Worlds.{over}
+use Rattle.act.specs.Does.{Answers, Does}
+use Rattle.act.specs.Worlds.{over}
 use Rattle.journal.specs.Undoing.{RolledBack}
 use Rattle.journal.proofs.Back.{MemorySound, rolls, rolled-window, rolled-journal}
 use Rattle.closing.specs.Closes.{SameLevels, closed, Closes, fieldsIn}

@@ -17,7 +17,7 @@ use Rattle.rules.specs.declared.Verdict.{Verdict}
 use Rattle.rules.specs.declared.Verdict.the-variants as Verdict
 use Rattle.rules.proofs.FieldLaws.{Sound}
 use Rattle.closing.specs.declared.Small.{Small}
-use Rattle.flow.specs.Worlds.{over}
+use Rattle.act.specs.Worlds.{over}
 use Rattle.turns.specs.Turns.{around, turning}
 use Rattle.turns.specs.declared.Course.{Course}
 use Rattle.turns.specs.declared.Turned.{Turned}

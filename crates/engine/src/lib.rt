@@ -2,10 +2,10 @@
 // Their contracts fix all that is there after a call, for all inputs (crate `rules`, specs/Calls.antt, `after`). A call takes the device apart
 // once, into local arrays, which the turns are lent, and `Small`; all is done on these parts, and the device is put together once. (Copies of
 // the device are what a short run would spend most of its time on.)
+use act::Flow;
 use closing::Noted;
 use closing::Small;
 use controllers::Levelled;
-use flow::Flow;
 use rules::Acted;
 use rules::Device;
 use rules::Refusal;

@@ -22,8 +22,8 @@ use Rattle.rules.specs.declared.Device.{Device as HeldDevice}
 use Rattle.rules.specs.With.{withControllers, withMasks, withForced, withConfig, withLevels}
 use Rattle.rules.proofs.BytesLaws.{length-splice, splice-cons}
 use Rattle.rules.proofs.ViewLaws.{map-set, noHeld, controller-viewed}
-use Rattle.flow.specs.Does.{Does}
-use Rattle.flow.proofs.DoesLaws.{answers-done, answers-bind, does-put, does-cut, does-change}
+use Rattle.act.specs.Does.{Does}
+use Rattle.act.proofs.DoesLaws.{answers-done, answers-bind, does-put, does-cut, does-change}
 use Rattle.intc.specs.Writes.{writeTo, commandAt, InController, WrittenIn, Written}
 use Rattle.masks.proofs.Ranges.{never}
 

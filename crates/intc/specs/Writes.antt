@@ -10,7 +10,7 @@ use Rattle.rules.specs.Calls.{isNone, orNothing}
 use Rattle.rules.specs.Fields.{controller}
 use Rattle.rules.specs.Registers.{pick, controllerArms, controllerWrite}
 use Rattle.rules.specs.With.{withControllers}
-use Rattle.flow.specs.Does.{Does}
+use Rattle.act.specs.Does.{Does}
 
 -- in 0x08..0x17, offset mod 4 plus size is not above 4: else it is refusal 4
 abbrev pub InWord : ℕ → ℕ → Type 0

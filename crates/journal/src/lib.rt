@@ -1,6 +1,6 @@
 // The journal: its records, the stores that write them, and their undoing. Document 01, "Journal records".
-use flow::Flow;
-use flow::Step;
+use act::Flow;
+use act::Step;
 use memory::Place;
 use rules::Refusal;
 ghost use mathlib.Core.Path.{_≡_};
@@ -10,7 +10,7 @@ ghost use lib.ListN.{length, drop};
 ghost use Rattle.rules.specs.Act.{store, window as inWindow, table as inTable};
 ghost use Rattle.rules.specs.Bytes.{bytes, part, splice};
 ghost use Rattle.rules.specs.Carry.{legal, line};
-ghost use Rattle.flow.specs.Worlds.{OnTable};
+ghost use Rattle.act.specs.Worlds.{OnTable};
 ghost use Rattle.words.specs.Widths.{TableWidth};
 ghost use Rattle.journal.specs.Undoing.{undoLine, undoLines, RolledBack};
 

@@ -15,15 +15,15 @@ use Rattle.rules.specs.State.{Device}
 use Rattle.rules.specs.declared.Refusal.{Refusal}
 use Rattle.rules.specs.declared.Tcd.{Tcd}
 use Rattle.rules.proofs.Steps.{andThen, go-bind}
-use Rattle.flow.specs.Worlds.{over, world, told, on}
-use Rattle.flow.specs.declared.Flow.{Flow}
-use Rattle.flow.specs.declared.Step.{Step}
-use Rattle.flow.specs.declared.Step.the-variants as Step
-use Rattle.flow.proofs.Laws.{on-then, described}
-use Rattle.mover.specs.Moves.{moved}
-use Rattle.mover.specs.declared.Moved.{Moved}
-use Rattle.mover.specs.declared.Moved.the-variants as Moved
-use Rattle.mover.specs.declared.Steps.{Steps}
+use Rattle.act.specs.Worlds.{over, world, told, on}
+use Rattle.act.specs.declared.Flow.{Flow}
+use Rattle.act.specs.declared.Step.{Step}
+use Rattle.act.specs.declared.Step.the-variants as Step
+use Rattle.act.proofs.Laws.{on-then, described}
+use Rattle.equal_sizes.specs.Moves.{moved}
+use Rattle.equal_sizes.specs.declared.Moved.{Moved}
+use Rattle.equal_sizes.specs.declared.Moved.the-variants as Moved
+use Rattle.equal_sizes.specs.declared.Steps.{Steps}
 use Rattle.minor.specs.Passes.{passed}
 use Rattle.minor.specs.Stepping.{stepsOf}
 use Rattle.minor.specs.declared.Passed.the-variants.{Idle, Ran}

@@ -8,9 +8,9 @@ use Rattle.rules.specs.Act.{Act}
 use Rattle.rules.specs.Calls.{refusalNumber}
 use Rattle.rules.specs.Carry.{Out, ok, no, go, Lent}
 use Rattle.rules.specs.State.{Device}
-use Rattle.flow.specs.Worlds.{world}
-use Rattle.flow.specs.declared.Flow.{Flow}
-use Rattle.flow.specs.declared.Step.the-variants as Step
+use Rattle.act.specs.Worlds.{world}
+use Rattle.act.specs.declared.Flow.{Flow}
+use Rattle.act.specs.declared.Step.the-variants as Step
 use Rattle.minor.specs.declared.Passed.{Passed}
 use Rattle.minor.specs.declared.Passed.the-variants.{Idle, Ran}
 

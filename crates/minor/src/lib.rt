@@ -1,16 +1,16 @@
-// One minor loop of a channel: document 01, "Descriptors and one minor loop". Its transfer is in crates `mover` and `stager`, what follows it in
-// crate `finish`. Each contract says that the function does the steps of its tree (crate `rules`, specs/Minor.antt).
-use flow::Flow;
-use flow::Step;
-use mover::Moved;
-use mover::Steps;
+// One minor loop of a channel: document 01, "Descriptors and one minor loop". Its transfer is in crates `equal_sizes` and `unequal_sizes`, what follows it in
+// crate `major_end`. Each contract says that the function does the steps of its tree (crate `rules`, specs/Minor.antt).
+use act::Flow;
+use act::Step;
+use equal_sizes::Moved;
+use equal_sizes::Steps;
 use rules::Tcd;
 ghost use mathlib.Core.Path.{_≡_};
 ghost use Prim.Native.Nat.{_≤_, _<_, _^_};
 ghost use lib.ListN.{length};
 ghost use Rattle.rules.specs.Carry.{lending};
 ghost use Rattle.rules.specs.Minor.{transfer, pass};
-ghost use Rattle.stager.specs.Stages.{Stages};
+ghost use Rattle.unequal_sizes.specs.Stages.{Stages};
 ghost use Rattle.minor.specs.Passes.{Passes};
 ghost use Rattle.minor.specs.Stepping.{stepsOf};
 
@@ -52,9 +52,9 @@ fn transfer(
     let from = t.saddr;
     let to = t.daddr;
     if ssize == dsize {
-        return mover::move_sizes(base, window, ssize, reads, step, from, to, journal, at);
+        return equal_sizes::move_sizes(base, window, ssize, reads, step, from, to, journal, at);
     }
-    stager::move_unequal(
+    unequal_sizes::move_unequal(
         base,
         window,
         ssize,
@@ -96,7 +96,7 @@ pub fn dma_minor(
     requires { ⌜ ch < 64 ⌝ }
     ensures { λ r. ⌜ Passes (pass ch) base (lending (length (now (staging .entry)))) c r (now (window .entry)) (now (window .exit)) (now (journal .entry)) (now (journal .exit)) (now (table .entry)) (now (table .exit)) (now (majors .entry)) (now (majors .exit)) ⌝ }
 {
-    let t = finish::read_tcd(table, ch);
+    let t = major_end::read_tcd(table, ch);
     if words::count_of(t.citer) == 0 {
         return Passed::Idle;
     }
@@ -107,7 +107,7 @@ pub fn dma_minor(
             let s1 = sums::moved_on(sums::sources(c.cr, t), t, s);
             let d1 = sums::moved_on(sums::dests(c.cr, t), t, d);
             let next = Step::Going(with_end(c, e));
-            Passed::Ran(finish::dma_minor_done(
+            Passed::Ran(major_end::dma_minor_done(
                 next,
                 base,
                 window,

@@ -23,7 +23,7 @@ use Rattle.rules.specs.declared.Refusal.{Refusal}
 use Rattle.rules.specs.declared.Refusal.the-variants as Refusal
 use Rattle.rules.specs.declared.Verdict.the-variants as Verdict
 use Rattle.rules.proofs.BoolLaws.{and-left, and-both}
-use Rattle.flow.specs.Does.{Answers}
+use Rattle.act.specs.Does.{Answers}
 use Rattle.intc.specs.Writes.{InWord}
 use Rattle.masks.proofs.Ranges.{within-true}
 use Rattle.dma_read.specs.Access.{Fair}

@@ -17,7 +17,7 @@ use Rattle.rules.specs.declared.Heard.{Heard}
 use Rattle.rules.specs.declared.Heard.the-variants as Heard
 use Rattle.rules.proofs.Each.{Each}
 use Rattle.rules.proofs.Spares.{sparing}
-use Rattle.flow.specs.Does.{Does}
+use Rattle.act.specs.Does.{Does}
 use Rattle.closing.specs.declared.Touched.{Touched}
 use Rattle.acting.specs.Ending.{touchedBy}
 

@@ -1,10 +1,10 @@
 // The calls on registers and inputs: read, write, inputs, pending, acknowledge. A device goes in by value and comes back with the answer;
 // what is wrong with the arguments is tested in the order of document 01's numbers, before anything is done. What each act touches is
 // compared at its end: the fields of numbers 0 to 27 always, and of the arrays only those that the call can change.
+use act::Walk;
 use acting::refused;
 use closing::Touched;
 use dma_commands::Reached;
-use flow::Walk;
 use intc::Cell;
 use rules::Acknowledged;
 use rules::Acted;

@@ -16,7 +16,7 @@ use Rattle.rules.specs.Run.{over, release}
 use Rattle.rules.specs.Words.{has, gain}
 use Rattle.rules.specs.With.{withBusy}
 use Rattle.rules.specs.State.{Device}
-use Rattle.flow.specs.Does.{beside}
+use Rattle.act.specs.Does.{beside}
 use Rattle.turns.specs.Frees.{freed, freeing}
 
 -- ---- a busy time, by cases

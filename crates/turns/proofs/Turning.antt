@@ -20,10 +20,10 @@ use Rattle.rules.specs.Words.{has, gain, lose, lowest}
 use Rattle.rules.specs.State.{Device}
 use Rattle.rules.specs.declared.Refusal.{Refusal}
 use Rattle.rules.proofs.Steps.{putting, go-done, bind-ok, bind-no, then-ok, change-does}
-use Rattle.flow.specs.Worlds.{told}
-use Rattle.flow.specs.declared.Flow.{Flow}
-use Rattle.flow.specs.declared.Step.{Step}
-use Rattle.flow.specs.declared.Step.the-variants.{Going, Refused}
+use Rattle.act.specs.Worlds.{told}
+use Rattle.act.specs.declared.Flow.{Flow}
+use Rattle.act.specs.declared.Step.{Step}
+use Rattle.act.specs.declared.Step.the-variants.{Going, Refused}
 use Rattle.channel.specs.Goes.{lined, Goes, Asks, Small, Sums}
 use Rattle.channel.specs.Offers.{offeredIn}
 use Rattle.channel.specs.declared.Line.{Line}

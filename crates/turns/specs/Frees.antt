@@ -9,7 +9,7 @@ use Rattle.rules.specs.Run.{over, release}
 use Rattle.rules.specs.Words.{has, gain}
 use Rattle.rules.specs.With.{withBusy}
 use Rattle.rules.specs.State.{Device}
-use Rattle.flow.specs.Does.{beside}
+use Rattle.act.specs.Does.{beside}
 
 -- the busy times, where that of a channel becomes 0 if it is over
 unfoldable pub freed : ℕ → List ℕ → ℕ → List ℕ

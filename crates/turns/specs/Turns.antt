@@ -8,9 +8,9 @@ use Rattle.rules.specs.Calls.{refusalNumber}
 use Rattle.rules.specs.Carry.{World, Out, ok, no, go, Lent}
 use Rattle.rules.specs.With.{withPending, withBusy, withDeferred, withDeadline}
 use Rattle.rules.specs.State.{Device}
-use Rattle.flow.specs.Worlds.{world}
-use Rattle.flow.specs.declared.Step.{Step}
-use Rattle.flow.specs.declared.Step.the-variants as Step
+use Rattle.act.specs.Worlds.{world}
+use Rattle.act.specs.declared.Step.{Step}
+use Rattle.act.specs.declared.Step.the-variants as Step
 use Rattle.turns.specs.declared.Course.{Course}
 use Rattle.turns.specs.declared.Turned.{Turned}
 use Rattle.turns.specs.declared.Turned.the-variants.{On, Off}

@@ -1,8 +1,8 @@
 // Turns: document 01, "Run, service, controllers". A turn, a run of turns, and the release of channels whose busy time is over.
 // Each contract says that the function does the steps of its tree (crate `rules`, specs/Run.antt), whatever the rest of the device is.
+use act::Flow;
+use act::Step;
 use channel::Line;
-use flow::Flow;
-use flow::Step;
 use rules::LINE;
 use rules::Refusal;
 use rules::START;

@@ -7,7 +7,7 @@ use Prim.Native.Nat.{_≤_, _^_}
 use lib.ListN.{length}
 use Rattle.rules.specs.State.{Device}
 use Rattle.rules.specs.Carry.{go, lending}
-use Rattle.flow.specs.Worlds.{world}
+use Rattle.act.specs.Worlds.{world}
 use Rattle.channel.proofs.line_loop.Statement.{statement}
 use Rattle.channel.proofs.line_loop.Tie as tie
 

@@ -1,5 +1,5 @@
 -- `controllers::with_pending` meets its contract. One step of the rules. Assumes nothing.
-use Rattle.flow.proofs.DoesLaws.{does-put}
+use Rattle.act.proofs.DoesLaws.{does-put}
 use Rattle.rules.specs.Fields.{bitsOf}
 use Rattle.rules.specs.Calls.{setPending}
 use Rattle.rules.specs.Act.{PENDING}

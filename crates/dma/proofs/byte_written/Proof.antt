@@ -1,7 +1,7 @@
 -- `dma::byte_written` meets its contract. Assumes nothing.
 use Rattle.dma.proofs.Laws.{write-command, byte-idle}
 use Rattle.masks.proofs.Ranges.{within-true}
-use Rattle.flow.specs.Worlds.{walked, on}
+use Rattle.act.specs.Worlds.{walked, on}
 use Rattle.rules.specs.Carry.{go}
 use Rattle.rules.specs.Calls.{orNothing}
 use native.Mathlib.Omega.{arith}

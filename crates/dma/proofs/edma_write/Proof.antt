@@ -2,7 +2,7 @@
 use Rattle.dma.proofs.Laws.{write-table, write-none}
 use Rattle.dma_read.proofs.Laws.{in-table}
 use Rattle.masks.proofs.Ranges.{within-true}
-use Rattle.flow.specs.Worlds.{walked}
+use Rattle.act.specs.Worlds.{walked}
 use Rattle.rules.specs.Carry.{go}
 use Rattle.rules.specs.Calls.{orNothing}
 use native.Mathlib.Omega.{arith}

@@ -1,6 +1,6 @@
 -- `dma::flags_written` meets its contract. Assumes nothing.
 use Rattle.dma.proofs.Laws.{changed-to}
-use Rattle.flow.proofs.DoesLaws.{answers-done}
+use Rattle.act.proofs.DoesLaws.{answers-done}
 use Rattle.rules.specs.Registers.{pick, dmaArms}
 use Rattle.rules.specs.Fields.{bitsOf}
 use Rattle.rules.specs.Calls.{orNothing}

@@ -1,7 +1,7 @@
 -- `dma::word_written` meets its contract. Assumes nothing.
 use Rattle.dma.proofs.Laws.{write-word}
 use Rattle.dma_commands.proofs.Laws.{does-on}
-use Rattle.flow.specs.Worlds.{walked, on}
+use Rattle.act.specs.Worlds.{walked, on}
 use Rattle.rules.specs.Registers.{pick, dmaArms}
 use Rattle.rules.specs.Calls.{orNothing}
 use borrow.Author.Needs.{needs}

@@ -1,5 +1,5 @@
 -- `dma_commands::begun` meets its contract. Assumes nothing.
-use Rattle.flow.specs.Worlds.{told, walked}
+use Rattle.act.specs.Worlds.{told, walked}
 use mathlib.Core.Path.{refl}
 use Rattle.dma_commands.proofs.begun.Statement.{statement}
 use Rattle.dma_commands.proofs.begun.Tie as tie

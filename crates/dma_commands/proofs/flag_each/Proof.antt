@@ -5,7 +5,7 @@ use native.Mathlib.Omega.{arith}
 use Rattle.rules.specs.Carry.{Lent}
 use Rattle.dma_commands.proofs.Laws.{flag-turn, flag-end}
 use Rattle.dma_commands.specs.Reaching.{flagged}
-use Rattle.flow.specs.Worlds.{told, on}
+use Rattle.act.specs.Worlds.{told, on}
 use Rattle.rules.specs.State.{Device}
 use Rattle.rules.specs.Registers.{flagEach}
 use Prim.Native.Nat.{ℕ, _-_, _≤_}

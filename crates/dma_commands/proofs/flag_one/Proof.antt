@@ -1,6 +1,6 @@
 -- `dma_commands::flag_one` meets its contract. Assumes nothing.
 use Rattle.dma_commands.proofs.Laws.{flag-done}
-use Rattle.flow.proofs.Laws.{passed, taken}
+use Rattle.act.proofs.Laws.{passed, taken}
 use borrow.Author.Tests.{not-true, not-false}
 use native.Mathlib.Omega.{arith}
 use borrow.Author.Needs.{needs}

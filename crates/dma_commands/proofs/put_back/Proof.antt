@@ -1,5 +1,5 @@
 -- `dma_commands::put_back` meets its contract. Assumes nothing.
-use Rattle.flow.specs.Worlds.{told, walked}
+use Rattle.act.specs.Worlds.{told, walked}
 use borrow.Author.Needs.{needs}
 use Rattle.dma_commands.proofs.put_back.Statement.{statement}
 use Rattle.dma_commands.proofs.put_back.Tie as tie

@@ -1,6 +1,6 @@
 -- `dma_commands::with_kick` meets its contract. Assumes nothing.
 use Rattle.dma_commands.proofs.Laws.{off-stays, on-from, does-on, kicks}
-use Rattle.flow.proofs.Laws.{passed, taken}
+use Rattle.act.proofs.Laws.{passed, taken}
 use borrow.Author.Tests.{not-true, not-false}
 use borrow.Author.Needs.{needs}
 use Rattle.dma_commands.proofs.with_kick.Statement.{statement}

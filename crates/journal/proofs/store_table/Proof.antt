@@ -1,6 +1,6 @@
 -- `journal::store_table` meets its contract: refused already, no room, or the record and the store. Assumes nothing.
 use Rattle.journal.proofs.Laws.{legal-table, no-room, room}
-use Rattle.flow.proofs.Laws.{stays, table-full, table-done}
+use Rattle.act.proofs.Laws.{stays, table-full, table-done}
 use lib.ListN.{length}
 use mathlib.Core.Path.{refl}
 use native.Mathlib.Omega.{arith}

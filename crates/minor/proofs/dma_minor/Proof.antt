@@ -4,7 +4,7 @@ use native.Mathlib.Omega.{arith}
 use lib.ListN.{length}
 use borrow.Author.Needs.{needs}
 use Rattle.rules.specs.Carry.{lending}
-use Rattle.flow.specs.Worlds.{over}
+use Rattle.act.specs.Worlds.{over}
 use Rattle.minor.proofs.Laws.{pass-idle, pass-not, pass-to}
 use Rattle.minor.proofs.dma_minor.Statement.{statement}
 use Rattle.minor.proofs.dma_minor.Tie as tie

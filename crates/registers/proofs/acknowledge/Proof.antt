@@ -4,7 +4,7 @@ use Rattle.rules.specs.View.{view}
 use Rattle.registers.proofs.Laws.{used-fits, accepts, asked-after, heard-made}
 use Rattle.registers.specs.Asked.{asked}
 use Rattle.acting.proofs.Laws.{spared}
-use Rattle.flow.specs.Does.{Answers}
+use Rattle.act.specs.Does.{Answers}
 use Rattle.rules.proofs.Spares.{acknowledge-spares}
 use Rattle.rules.specs.Calls.{ack, wrong, check, stagingAfter, actOf}
 use native.Mathlib.Omega.{arith}

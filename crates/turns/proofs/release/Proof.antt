@@ -8,7 +8,7 @@ use Rattle.rules.specs.Carry.{go, Lent}
 use Rattle.rules.specs.Run.{release}
 use Rattle.rules.specs.With.{withBusy}
 use Rattle.rules.specs.State.{Device}
-use Rattle.flow.specs.Does.{beside}
+use Rattle.act.specs.Does.{beside}
 use Rattle.turns.proofs.release.Statement.{statement}
 use Rattle.turns.proofs.release.Tie as tie
 

@@ -1,0 +1,328 @@
+// Transfers of equal sizes: "read and write unit by unit, in rising k, rounding up to whole sizes". There is one loop for each unit size, and
+// the width in it is a constant, so that a unit compiles to plain loads and stores.
+// Each contract says that the function does the steps of its tree (crate `rules`, specs/Minor.antt), whatever the rest of the world is.
+use act::Walk;
+use memory::Place;
+use rules::Refusal;
+ghost use mathlib.Core.Path.{_≡_};
+ghost use Prim.Native.Nat.{_+_, _*_, _%_, _^_, _≤_, _<_};
+ghost use Rattle.rules.specs.Act.{store, window as inWindow};
+ghost use Rattle.rules.specs.Minor.{moveUnit, moveUnits, moveSizes};
+ghost use Rattle.words.specs.Sizes.{Sized};
+ghost use Rattle.act.specs.Worlds.{Walks};
+ghost use Rattle.equal_sizes.specs.Moves.{Moves};
+
+// What the addresses step by after each whole size, and with which modulo.
+pub struct Steps {
+    pub soff: u32,
+    pub smod: u32,
+    pub doff: u32,
+    pub dmod: u32,
+}
+
+// The two addresses after a transfer, and the journal's end; or why it is refused, and the journal's end there.
+pub enum Moved {
+    To(u32, u32, usize),
+    Not(Refusal, usize),
+}
+
+// ---- a unit stored, "one record per store, changed or not, before the store"; "9 before 11 at one store"
+
+pub fn store1(
+    base: u32,
+    window: &mut [u8],
+    address: u32,
+    value: u8,
+    journal: &mut [u8],
+    at: usize,
+) -> Walk
+    ensures { λ r. ⌜ Walks (store inWindow address 1 value) base at r (now (window .entry)) (now (window .exit)) (now (journal .entry)) (now (journal .exit)) ⌝ }
+{
+    let Place::At(i) = memory::where_is(base, window, address, 1) else {
+        return Walk::Off(Refusal::Outside, at);
+    };
+    if !journal::has_room(journal, at) {
+        return Walk::Off(Refusal::Room, at);
+    }
+    let old = words::get1(window, i);
+    journal::put_record(journal, at, 0, 1, address, old as u64);
+    words::put1(window, i, value);
+    Walk::On(at + 16)
+}
+
+pub fn store2(
+    base: u32,
+    window: &mut [u8],
+    address: u32,
+    value: u16,
+    journal: &mut [u8],
+    at: usize,
+) -> Walk
+    ensures { λ r. ⌜ Walks (store inWindow address 2 value) base at r (now (window .entry)) (now (window .exit)) (now (journal .entry)) (now (journal .exit)) ⌝ }
+{
+    let Place::At(i) = memory::where_is(base, window, address, 2) else {
+        return Walk::Off(Refusal::Outside, at);
+    };
+    if !journal::has_room(journal, at) {
+        return Walk::Off(Refusal::Room, at);
+    }
+    let old = words::get2(window, i);
+    journal::put_record(journal, at, 0, 2, address, old as u64);
+    words::put2(window, i, value);
+    Walk::On(at + 16)
+}
+
+pub fn store4(
+    base: u32,
+    window: &mut [u8],
+    address: u32,
+    value: u32,
+    journal: &mut [u8],
+    at: usize,
+) -> Walk
+    ensures { λ r. ⌜ Walks (store inWindow address 4 value) base at r (now (window .entry)) (now (window .exit)) (now (journal .entry)) (now (journal .exit)) ⌝ }
+{
+    let Place::At(i) = memory::where_is(base, window, address, 4) else {
+        return Walk::Off(Refusal::Outside, at);
+    };
+    if !journal::has_room(journal, at) {
+        return Walk::Off(Refusal::Room, at);
+    }
+    let old = words::get4(window, i);
+    journal::put_record(journal, at, 0, 4, address, old as u64);
+    words::put4(window, i, value);
+    Walk::On(at + 16)
+}
+
+// ---- a unit moved
+
+fn move_unit1(base: u32, window: &mut [u8], a: u32, b: u32, journal: &mut [u8], at: usize) -> Walk
+    ensures { λ r. ⌜ Walks (moveUnit 1 a b) base at r (now (window .entry)) (now (window .exit)) (now (journal .entry)) (now (journal .exit)) ⌝ }
+{
+    let Place::At(i) = memory::where_is(base, window, a, 1) else {
+        return Walk::Off(Refusal::Outside, at);
+    };
+    let v = words::get1(window, i);
+    store1(base, window, b, v, journal, at)
+}
+
+fn move_unit2(base: u32, window: &mut [u8], a: u32, b: u32, journal: &mut [u8], at: usize) -> Walk
+    ensures { λ r. ⌜ Walks (moveUnit 2 a b) base at r (now (window .entry)) (now (window .exit)) (now (journal .entry)) (now (journal .exit)) ⌝ }
+{
+    let Place::At(i) = memory::where_is(base, window, a, 2) else {
+        return Walk::Off(Refusal::Outside, at);
+    };
+    let v = words::get2(window, i);
+    store2(base, window, b, v, journal, at)
+}
+
+fn move_unit4(base: u32, window: &mut [u8], a: u32, b: u32, journal: &mut [u8], at: usize) -> Walk
+    ensures { λ r. ⌜ Walks (moveUnit 4 a b) base at r (now (window .entry)) (now (window .exit)) (now (journal .entry)) (now (journal .exit)) ⌝ }
+{
+    let Place::At(i) = memory::where_is(base, window, a, 4) else {
+        return Walk::Off(Refusal::Outside, at);
+    };
+    let v = words::get4(window, i);
+    store4(base, window, b, v, journal, at)
+}
+
+// ---- sizes of 1, 2 and 4 bytes, each one unit: "only the step by `soff` or `doff` after each whole size uses modulo"
+
+fn move_sizes1(
+    base: u32,
+    window: &mut [u8],
+    count: u32,
+    step: Steps,
+    from: u32,
+    to: u32,
+    journal: &mut [u8],
+    at: usize,
+) -> Moved
+    requires { ⌜ (step .smod < 32) × (step .dmod < 32) ⌝ }
+    ensures { λ r. ⌜ Moves (moveSizes count (step .soff) (step .smod) (step .doff) (step .dmod) 1 from to) base at r (now (window .entry)) (now (window .exit)) (now (journal .entry)) (now (journal .exit)) ⌝ }
+{
+    let mut s = from;
+    let mut d = to;
+    let mut end = at;
+    let mut left = count;
+    while left != 0 {
+        match move_unit1(base, window, s, d, journal, end) {
+            Walk::On(next) => {
+                end = next;
+            }
+            Walk::Off(n, e) => {
+                return Moved::Not(n, e);
+            }
+        }
+        s = words::modulo_add(s, step.soff, step.smod);
+        d = words::modulo_add(d, step.doff, step.dmod);
+        left -= 1;
+    }
+    Moved::To(s, d, end)
+}
+
+fn move_sizes2(
+    base: u32,
+    window: &mut [u8],
+    count: u32,
+    step: Steps,
+    from: u32,
+    to: u32,
+    journal: &mut [u8],
+    at: usize,
+) -> Moved
+    requires { ⌜ (step .smod < 32) × (step .dmod < 32) ⌝ }
+    ensures { λ r. ⌜ Moves (moveSizes count (step .soff) (step .smod) (step .doff) (step .dmod) 2 from to) base at r (now (window .entry)) (now (window .exit)) (now (journal .entry)) (now (journal .exit)) ⌝ }
+{
+    let mut s = from;
+    let mut d = to;
+    let mut end = at;
+    let mut left = count;
+    while left != 0 {
+        match move_unit2(base, window, s, d, journal, end) {
+            Walk::On(next) => {
+                end = next;
+            }
+            Walk::Off(n, e) => {
+                return Moved::Not(n, e);
+            }
+        }
+        s = words::modulo_add(s, step.soff, step.smod);
+        d = words::modulo_add(d, step.doff, step.dmod);
+        left -= 1;
+    }
+    Moved::To(s, d, end)
+}
+
+fn move_sizes4(
+    base: u32,
+    window: &mut [u8],
+    count: u32,
+    step: Steps,
+    from: u32,
+    to: u32,
+    journal: &mut [u8],
+    at: usize,
+) -> Moved
+    requires { ⌜ (step .smod < 32) × (step .dmod < 32) ⌝ }
+    ensures { λ r. ⌜ Moves (moveSizes count (step .soff) (step .smod) (step .doff) (step .dmod) 4 from to) base at r (now (window .entry)) (now (window .exit)) (now (journal .entry)) (now (journal .exit)) ⌝ }
+{
+    let mut s = from;
+    let mut d = to;
+    let mut end = at;
+    let mut left = count;
+    while left != 0 {
+        match move_unit4(base, window, s, d, journal, end) {
+            Walk::On(next) => {
+                end = next;
+            }
+            Walk::Off(n, e) => {
+                return Moved::Not(n, e);
+            }
+        }
+        s = words::modulo_add(s, step.soff, step.smod);
+        d = words::modulo_add(d, step.doff, step.dmod);
+        left -= 1;
+    }
+    Moved::To(s, d, end)
+}
+
+// ---- sizes of 16 and 32 bytes, which move in units of 4
+
+// Where unit number k of a size is: "at address + k x unit, plainly".
+pub fn unit_at(address: u32, k: u32) -> u32
+    requires { ⌜ k < 8 ⌝ }
+    ensures { λ r. ⌜ r ≡ (address + k * 4) % 2 ^ 32 ⌝ }
+{
+    std::num::wrapping_add_u32(address, k * 4)
+}
+
+// `count` units, "in rising k".
+fn move_units4(
+    base: u32,
+    window: &mut [u8],
+    count: u32,
+    from: u32,
+    to: u32,
+    journal: &mut [u8],
+    at: usize,
+) -> Walk
+    requires { ⌜ count ≤ 8 ⌝ }
+    ensures { λ r. ⌜ Walks (moveUnits count 0 4 from to) base at r (now (window .entry)) (now (window .exit)) (now (journal .entry)) (now (journal .exit)) ⌝ }
+{
+    let mut end = at;
+    let mut k: u32 = 0;
+    while k < count {
+        let a = unit_at(from, k);
+        let b = unit_at(to, k);
+        match move_unit4(base, window, a, b, journal, end) {
+            Walk::On(next) => {
+                end = next;
+            }
+            Walk::Off(n, e) => {
+                return Walk::Off(n, e);
+            }
+        }
+        k += 1;
+    }
+    Walk::On(end)
+}
+
+fn move_bursts(
+    base: u32,
+    window: &mut [u8],
+    size: u32,
+    count: u32,
+    step: Steps,
+    from: u32,
+    to: u32,
+    journal: &mut [u8],
+    at: usize,
+) -> Moved
+    requires { ⌜ (4 ≤ size) × (size ≤ 32) × (step .smod < 32) × (step .dmod < 32) ⌝ }
+    ensures { λ r. ⌜ Moves (moveSizes count (step .soff) (step .smod) (step .doff) (step .dmod) size from to) base at r (now (window .entry)) (now (window .exit)) (now (journal .entry)) (now (journal .exit)) ⌝ }
+{
+    let units = size / 4;
+    let mut s = from;
+    let mut d = to;
+    let mut end = at;
+    let mut left = count;
+    while left != 0 {
+        match move_units4(base, window, units, s, d, journal, end) {
+            Walk::On(next) => {
+                end = next;
+            }
+            Walk::Off(n, e) => {
+                return Moved::Not(n, e);
+            }
+        }
+        s = words::modulo_add(s, step.soff, step.smod);
+        d = words::modulo_add(d, step.doff, step.dmod);
+        left -= 1;
+    }
+    Moved::To(s, d, end)
+}
+
+// ---- `count` whole sizes, of any size
+
+pub fn move_sizes(
+    base: u32,
+    window: &mut [u8],
+    size: u32,
+    count: u32,
+    step: Steps,
+    from: u32,
+    to: u32,
+    journal: &mut [u8],
+    at: usize,
+) -> Moved
+    requires { ⌜ (Sized size) × (step .smod < 32) × (step .dmod < 32) ⌝ }
+    ensures { λ r. ⌜ Moves (moveSizes count (step .soff) (step .smod) (step .doff) (step .dmod) size from to) base at r (now (window .entry)) (now (window .exit)) (now (journal .entry)) (now (journal .exit)) ⌝ }
+{
+    match size {
+        1 => move_sizes1(base, window, count, step, from, to, journal, at),
+        2 => move_sizes2(base, window, count, step, from, to, journal, at),
+        4 => move_sizes4(base, window, count, step, from, to, journal, at),
+        _ => move_bursts(base, window, size, count, step, from, to, journal, at),
+    }
+}

@@ -1,0 +1,47 @@
+-- `unequal_sizes::read_unit2` meets its contract, by where the unit is read: the laws of a unit at width 2. Assumes nothing.
+use lib.ListN.{take}
+use borrow.Author.Needs.{needs}
+use Rattle.memory.proofs.Laws.{at-fits}
+use Rattle.unequal_sizes.proofs.Reading.{staged, read-outside, read-inside}
+use Rattle.unequal_sizes.proofs.read_unit2.Statement.{statement}
+use Rattle.unequal_sizes.proofs.read_unit2.Tie as tie
+
+where-is-requires : tie.Need-where-is-requires
+where-is-requires c κs = search needs
+
+enum-known-i : tie.Need-enum-known-i
+enum-known-i c = search needs
+
+enum-told : tie.Need-enum-told
+enum-told c = search needs
+
+returns : tie.Need-returns
+returns c lent d j e = read-outside _ lent d _ j e 2 _ _ (c .before .before .where-is .ensures) (c .enum-told .given .1) _
+
+get2-requires : tie.Need-get2-requires
+get2-requires c κs = at-fits _ _ _ _ (c .before .before .before .before .where-is .ensures) (c .before .before .i .given .1)
+
+put2-requires : tie.Need-put2-requires
+put2-requires c κs = search needs
+
+same-length : tie.Need-same-length
+same-length c = search needs
+
+returns-2 : tie.Need-returns-2
+returns-2 c lent d j e =
+    let a = c .before .before .before .before .before .before .before .before .before .before .before .args in
+    read-inside (a .base) lent d (a .window .now) j e 2 (a .a) (take (a .len) (a .staging .now)) (c .before .before .before .before .before .before .before .before .where-is .ensures) (c .before .before .before .before .before .before .i .given .1)
+    (staged (a .staging .now) (a .len) 2 (a .window .now) _ (c .before .before .before .before .before .before .before .before .before .before .before .pre) (λ i. c .before .before .before .before .before .before .before .before .before .before .shared-slice-known .given i .fits) (c .before .before .before .get2 .ensures) (c .before .before .put2 .ensures))
+
+pub read-unit2-spec : {M : Type 1} → statement M
+read-unit2-spec =
+    tie.close
+    (tie.spec
+    where-is-requires
+    enum-known-i
+    enum-told
+    returns
+    get2-requires
+    put2-requires
+    same-length
+    returns-2)
