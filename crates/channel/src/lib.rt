@@ -85,7 +85,7 @@ pub fn start_loop(
     let mut f = c;
     let mut left: usize = 0x8000;
     while 0 < left {
-        let Passed::Ran(s) = minor::dma_minor(f, base, window, table, majors, ch, staging, journal)
+        let Passed::Ran(s) = minor::dma_minor(f, window, base, table, majors, ch, staging, journal)
         else {
             return Step::Going(f);
         };
@@ -135,7 +135,7 @@ pub fn line_loop(
     let mut left: usize = 0x400001;
     while 0 < left {
         let bytes = nbytes_of(table, LINE);
-        let r = minor::dma_minor(f, base, window, table, majors, LINE, staging, journal);
+        let r = minor::dma_minor(f, window, base, table, majors, LINE, staging, journal);
         let csr = csr_of(table, LINE);
         let Passed::Ran(s) = r else {
             return Line::Sum(sum, f);
@@ -180,7 +180,7 @@ pub fn request_loop(
             return Step::Going(f);
         }
         spend(pending, ch);
-        let Passed::Ran(s) = minor::dma_minor(f, base, window, table, majors, ch, staging, journal)
+        let Passed::Ran(s) = minor::dma_minor(f, window, base, table, majors, ch, staging, journal)
         else {
             return Step::Going(f);
         };
