@@ -132,7 +132,9 @@ standing Verdict.Accepted x y = y
 standing (Verdict.Refused n) x y = x
 
 -- an act with those steps, carried out as a call does it, but for the arrays after a refusal
-abbrev pub Carries : ℕ → ℕ → ℕ → Small → Bool → Course → Done → List ℕ → List ℕ → List ℕ → List ℕ → List ℕ → List ℕ → List ℕ → List ℕ → List ℕ → List ℕ → List ℕ → List ℕ → List ℕ → List ℕ → List ℕ → List ℕ → List ℕ → ℕ → Type 0
+abbrev pub Carries : ℕ → ℕ → ℕ → Small → Bool → Course → Done
+    → List ℕ → List ℕ → List ℕ → List ℕ → List ℕ → List ℕ → List ℕ → List ℕ → List ℕ
+    → List ℕ → List ℕ → List ℕ → List ℕ → List ℕ → List ℕ → List ℕ → List ℕ → ℕ → Type 0
 Carries time pace base before ignore t r w w′ s s′ j j′ tb tb′ b b₁ b′ m m₁ m′ p p₁ p′ used =
     (taken : List ℕ) → Fine (whole before ignore tb b m p taken) → (act : Act (Unit {0})) → SameSteps act time pace base (whole before ignore tb b m p taken) t w s j m₁ p₁ b₁ used
     → told (verdictNumber (r .verdict)) Heard.Nothing (standing (r .verdict) (whole (r .small) ignore tb b m p taken) (whole (r .small) ignore tb′ b′ m′ p′ taken)) w′ s′ j′ (r .used)
