@@ -59,13 +59,13 @@ arrayOf (PENDING ch) = 3
 arrayOf (SOURCE c s) = 4
 arrayOf (TAKEN i) = 5
 
--- no window
-abbrev pub Aside : Space → Type 0
-Aside window = ⊥
-Aside table = Unit {0}
+-- not in the window
+abbrev pub OffWindow : Space → Type 0
+OffWindow window = ⊥
+OffWindow table = Unit {0}
 
 abbrev pub sparing : (ℕ → Bool) → Rights
-sparing t = record { may-stage = λ n. ⊥; may-fetch = λ sp a n. Aside sp; may-store = λ sp a n. Aside sp; may-put = λ f. Allowed t (arrayOf f) }
+sparing t = record { may-stage = λ n. ⊥; may-fetch = λ sp a n. OffWindow sp; may-store = λ sp a n. OffWindow sp; may-put = λ f. Allowed t (arrayOf f) }
 
 -- ---- one step
 
