@@ -15,14 +15,14 @@ use Rattle.rules.specs.declared.Heard.the-variants as Heard
 use Rattle.rules.specs.Act.{acts, put, INT, LEVEL, LINES, SOURCE, TAKEN}
 use Rattle.rules.specs.Bytes.{part}
 use Rattle.rules.specs.Carry.{go}
-use Rattle.rules.specs.Fields.{controller, bitsOf, holds, withField, partsOf}
+use Rattle.rules.specs.Fields.{controller, bitsOf, holds, withField}
 use Rattle.rules.specs.View.{viewController, view}
 use Rattle.rules.specs.With.{withControllers, withLevel, withLines}
 use Rattle.rules.specs.declared.Controller.{Controller as HeldController}
 use Rattle.rules.specs.declared.Device.{Device as HeldDevice}
 use Rattle.rules.specs.Lines.{driven, sources, levelBytes, levelOf, relevel, above, heardFrom, hear, acknowledge, Found}
 use Rattle.rules.proofs.BytesLaws.{length-part, getD-part}
-use Rattle.rules.proofs.FieldLaws.{in-three, Sound, sized, holds-fits}
+use Rattle.rules.proofs.FieldLaws.{in-three, Sound, levels-long, holds-fits}
 use Rattle.rules.proofs.ViewLaws.{map-set, noHeld, controller-viewed}
 use Rattle.act.specs.Does.{Answers, Does}
 use Rattle.act.proofs.DoesLaws.{answers-done, answers-ask, answers-bind, answers-then, does-put, does-change}
@@ -64,16 +64,6 @@ module _ (d : Device) (c : ℕ) where
     heard-answers : (ipl : ℕ) (below : Found) → Answers (heardFrom ipl c below) d (above c (loudIn ipl (d .ignore) (controller (d .controllers) c)) below) d
     unfolding heardFrom loudIn
     heard-answers ipl below = answers-bind _ _ d d d _ _ sources-answers (answers-bind _ _ d d d _ _ levels-answer (answers-done d _))
-
--- ---- three controllers
-
--- each has 64 level bytes
-levels-long : (d : Device) → Sound d → (c : ℕ) → c < 3 → length (controller (d .controllers) c .levels) ≡ 64
-unfolding partsOf
-levels-long d s zero h = sized d s .1 .1 .1 .1 .0
-levels-long d s (suc zero) h = sized d s .1 .1 .1 .1 .1 .0
-levels-long d s (suc (suc zero)) h = sized d s .1 .1 .1 .1 .1 .1 .0
-levels-long d s (suc (suc (suc c))) h = absurd (omega arith)
 
 -- ---- lines and level worked out anew
 

@@ -7,23 +7,16 @@ use Prim.Native.Nat.{ℕ, zero, suc, _≤_, _<_}
 use native.Mathlib.Omega.{arith}
 use borrow.Author.Tests.{ltb-true, leb-true}
 use lib.Dec.{leb, ltb, lit≤}
-use lib.ListN.{length, getD, drop, List·getD-append}
+use lib.ListN.{getD, drop, List·getD-append}
 use Rattle.rules.specs.Act.{Field, CR, ERQ, EEI, INT, ERR, KICK, DEFERRED, DEADLINE, LEVEL, STANDING, MASKS, FORCED, LINES, CONFIG, BUSY, MAJORS, PENDING, SOURCE, TAKEN}
-use Rattle.rules.specs.Fields.{joined, bitsOf, ofController, partsOf, controller, withSome, withNumber, fieldAt, fitsSome}
+use Rattle.rules.specs.Fields.{joined, bitsOf, ofController, controller, withSome, withNumber, fieldAt, fitsSome}
 use Rattle.rules.specs.State.{Device}
-use Rattle.rules.proofs.FieldLaws.{Sound, sized, holds-fits, bitParts, fieldBits, Agrees}
+use Rattle.rules.proofs.FieldLaws.{Sound, levels-long, holds-fits, bitParts, fieldBits, Agrees}
 use Rattle.rules.proofs.Numbers.{agrees-at}
 use Rattle.device.specs.declared.Spot.{Spot}
 use Rattle.device.specs.Spots.{Fits, Found, named, Inside, bitsSome, bitsAt}
 
 -- ---- a controller
-
-levels-long : (d : Device) → Sound d → (c : ℕ) → c < 3 → length (controller (d .controllers) c .levels) ≡ 64
-unfolding partsOf
-levels-long d s zero h = sized d s .1 .1 .1 .1 .0
-levels-long d s (suc zero) h = sized d s .1 .1 .1 .1 .1 .0
-levels-long d s (suc (suc zero)) h = sized d s .1 .1 .1 .1 .1 .1 .0
-levels-long d s (suc (suc (suc c))) h = absurd (omega arith)
 
 pub controller-fits : (d : Device) → Sound d → (c : ℕ) → c < 3 → Fits (controller (d .controllers) c)
 unfolding bitsOf

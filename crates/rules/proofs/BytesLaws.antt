@@ -205,12 +205,6 @@ part-part xs at n i zero h = refl
 part-part xs at n i (suc m) h =
     λ k. getD-part xs at n i (omega arith) k ∷ (part-part xs at n (suc i) m (omega arith) ∙ ap (λ (l : ℕ). part xs l m) (add-suc at i)) k
 
--- two lists that agree from i on for n elements have the same part there
-pub part-same : (xs ys : List ℕ) (i n : ℕ) → ((k : ℕ) → k < i + n → getD xs k 0 ≡ getD ys k 0) → part xs i n ≡ part ys i n
-unfolding part
-part-same xs ys i zero h = refl
-part-same xs ys i (suc n) h = λ k. h i (omega arith) k ∷ part-same xs ys (suc i) n (λ l b. h l (omega arith)) k
-
 -- the old value of a part, laid over again
 pub part-back : (xs : List ℕ) (at n : ℕ) → Bytes xs → bytes n (number (part xs at n)) ≡ part xs at n
 part-back xs at n b =

@@ -39,6 +39,14 @@ pub record Sound (d : Device) : Type 0 where
 pub sized : (d : Device) → Sound d → Sized sizes (partsOf d)
 sized d s = (unfold bitParts in fitting-sized bitParts (partsOf d) (s .fitting))
 
+-- each controller has 64 level bytes
+pub levels-long : (d : Device) → Sound d → (c : ℕ) → c < 3 → length (controller (d .controllers) c .levels) ≡ 64
+unfolding partsOf
+levels-long d s zero h = sized d s .1 .1 .1 .1 .0
+levels-long d s (suc zero) h = sized d s .1 .1 .1 .1 .1 .0
+levels-long d s (suc (suc zero)) h = sized d s .1 .1 .1 .1 .1 .1 .0
+levels-long d s (suc (suc (suc c))) h = absurd (omega arith)
+
 pub within : (d : Device) → Sound d → Within fieldBits (fieldsOf d)
 unfolding fieldBits fieldsOf
 within d s = fitting-joined bitParts (partsOf d) (s .fitting)

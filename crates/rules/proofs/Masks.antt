@@ -2,10 +2,10 @@
 -- Assumes nothing.
 use mathlib.Core.Path.{_≡_, refl, sym, ap, ap₂, _∙_, subst}
 use Prim.Native.Nat.{ℕ, zero, suc, _+_, _-_, _*_, _/_, _%_, _^_, _≤_, _<_, min}
-use native.Mathlib.Nat.{one-mul, pow-suc, pow-succ', div-one, div-self, div-eq-of-lt, div-div-eq-div-mul, div-eq-of-lt-le, zero-lt-suc, le-of-suc-le-suc, lt-of-lt-of-le, mul-mod-left, mul-div-cancel, zero-div, mod-lt, sub-le, sub-zero}
+use native.Mathlib.Nat.{pow-suc, pow-succ', div-one, div-self, div-eq-of-lt, div-div-eq-div-mul, zero-lt-suc, mul-mod-left, mul-div-cancel, zero-div, mod-lt, sub-le, sub-zero}
 use native.Mathlib.Omega.{arith}
 use lib.Arith.{digits-mod, digits-div, lt-of-le-ne, lt-one}
-use lib.Pow.{pow-pos, pow-lt, pow-mono}
+use lib.Pow.{pow-pos, pow-lt}
 use lib.Bits.{bitAnd, and-step, or-lt, and-le-l}
 use lib.Count.{trailingZeros, under, trailing-le}
 use Rattle.rules.specs.Words.{gain, lose, without, lowest}
@@ -149,19 +149,6 @@ trailing-set (suc w) m h g = go (m % 2) refl (λ (e : m % 2 ≡ 0). trailing-set
     go : (r : ℕ) → m % 2 ≡ r → (m % 2 ≡ 0 → bit (m / 2) (trailingZeros w (m / 2)) ≡ 1) → bit m (under r (trailingZeros w (m / 2))) ≡ 1
     go zero e ih = bit-suc m (trailingZeros w (m / 2)) ∙ ih e
     go (suc r) e ih = bit-zero m ∙ is-one m r e
-
-no-below : (i : ℕ) → i < 0 → ⊥
-no-below i h = omega arith
-
-below-trailing : (w m j : ℕ) → j < trailingZeros w m → bit m j ≡ 0
-unfolding trailingZeros
-below-trailing zero m j h = absurd (no-below j h)
-below-trailing (suc w) m j h = go (m % 2) refl j h (λ i k. below-trailing w (m / 2) i k)
-  where
-    go : (r : ℕ) → m % 2 ≡ r → (j : ℕ) → j < under r (trailingZeros w (m / 2)) → ((i : ℕ) → i < trailingZeros w (m / 2) → bit (m / 2) i ≡ 0) → bit m j ≡ 0
-    go zero e zero h ih = bit-zero m ∙ e
-    go zero e (suc j) h ih = bit-suc m j ∙ ih j (le-of-suc-le-suc h)
-    go (suc r) e j h ih = absurd (no-below j h)
 
 module _ (m : ℕ) (h : 0 < m) (g : m < 2 ^ 64) where
   pub bit-lowest : bit m (lowest m) ≡ 1
