@@ -8,7 +8,8 @@ use native.Mathlib.Nat.{mod-eq-of-lt}
 use native.Mathlib.Omega.{arith}
 use lib.ListN.{length, getD, set, take, drop, length-drop, length-append}
 use lib.Seq.{take-at, drop-at, drop-drop, length-take-le}
-use Rattle.rules.specs.Act.{Act, window, table, INT, KICK, ERQ, MAJORS, _>>=_, _>>_, nothing, fetch, store, change, when}
+use Rattle.rules.specs.Act.{Act, window, table, SCALAR, MAJORS, _>>=_, _>>_, nothing, fetch, store, change, when}
+use Rattle.rules.specs.Scalars.{scalarBits, viewScalars}
 use Rattle.rules.specs.Bytes.{bytes, number, part, splice}
 use Rattle.rules.specs.Calls.{worldOf, refusalNumber}
 use Rattle.rules.specs.Carry.{Out, ok, no, bytesOf, withBytesOf, withDevice, legal, indexOf, there, stored, line, kindOf, lineOf, go, recorded, Lent}
@@ -18,6 +19,7 @@ use Rattle.rules.specs.Minor.{descriptor, tcdOf}
 use Rattle.rules.specs.State.{Device}
 use Rattle.rules.specs.declared.Refusal.{Refusal}
 use Rattle.rules.specs.declared.Refusal.the-variants as Refusal
+use Rattle.rules.specs.declared.Scalars.{Scalars}
 use Rattle.rules.specs.declared.Tcd.{Tcd}
 use Rattle.rules.proofs.BytesLaws.{length-bytes}
 use Rattle.rules.proofs.Cut.{splice-cut}
@@ -112,20 +114,10 @@ module _ (base : ℕ) (lent : Lent) where
 -- ---- a scalar changed
 
 module _ (base : ℕ) (lent : Lent) (d : Device) {s : Step} (c : Flow) (w j t l : List ℕ) (going : s ≡ Going c) (g : ℕ → ℕ) where
-  pub int-changed : {v : ℕ} → v ≡ g (c .int) → v < 2 ^ 64
-      → told (Going (record { cr = c .cr; erq = c .erq; int = v; kick = c .kick; at = c .at })) d w j t l ≡ on base lent (change INT g) (told s d w j t l)
+  pub scalar-changed : (i : ℕ) {v : ℕ} (n : Scalars) → viewScalars n ≡ set (viewScalars (c .scalars)) i v → v ≡ g (getD (viewScalars (c .scalars)) i 0) → v < 2 ^ getD scalarBits i 64
+      → told (Going (record { scalars = n; at = c .at })) d w j t l ≡ on base lent (change (SCALAR i) g) (told s d w j t l)
   unfolding told on go change bitsOf withDevice
-  int-changed e h = rw (going, ← e, mod-eq-of-lt h)
-
-  pub kick-changed : {v : ℕ} → v ≡ g (c .kick) → v < 2 ^ 64
-      → told (Going (record { cr = c .cr; erq = c .erq; int = c .int; kick = v; at = c .at })) d w j t l ≡ on base lent (change KICK g) (told s d w j t l)
-  unfolding told on go change bitsOf withDevice
-  kick-changed e h = rw (going, ← e, mod-eq-of-lt h)
-
-  pub erq-changed : {v : ℕ} → v ≡ g (c .erq) → v < 2 ^ 64
-      → told (Going (record { cr = c .cr; erq = v; int = c .int; kick = c .kick; at = c .at })) d w j t l ≡ on base lent (change ERQ g) (told s d w j t l)
-  unfolding told on go change bitsOf withDevice
-  erq-changed e h = rw (going, ← e, mod-eq-of-lt h)
+  scalar-changed i n p e h = rw (going, p, ← e, mod-eq-of-lt h)
 
   -- of a function that hands on the step it was given
   pub majors-changed : (ch : ℕ) {v : ℕ} → v ≡ g (getD l ch 0) → v < 2 ^ 64
@@ -175,7 +167,7 @@ module _ (base : ℕ) (lent : Lent) (d : Device) {s : Step} (c : Flow) (w j t l 
 
     pub table-done : c .at + 16 ≤ length j → {old : ℕ} {t′ j′ : List ℕ} {c′ : Flow}
         → old ≡ number (part t place width) → t′ ≡ splice t place (bytes width value) → j′ ≡ splice j (c .at) (line 1 width place old)
-        → c′ ≡ record { cr = c .cr; erq = c .erq; int = c .int; kick = c .kick; at = c .at + 16 }
+        → c′ ≡ record { scalars = c .scalars; at = c .at + 16 }
         → told (Going c′) d w j′ t′ l ≡ on base lent (store table place width value) (told s d w j t l)
     unfolding told on recorded stored withBytesOf bytesOf indexOf Carry·fetched lineOf kindOf
     table-done h p q r e =

@@ -6,7 +6,9 @@ use Prim.Native.Nat.{ℕ}
 use Rattle.rules.specs.Act.{Act, _>>=_}
 use Rattle.rules.specs.Calls.{worldOf, refusalNumber}
 use Rattle.rules.specs.Carry.{World, Out, ok, no, go, Lent}
+use Rattle.rules.specs.Scalars.{viewScalars}
 use Rattle.rules.specs.State.{Device}
+use Rattle.rules.specs.With.{withScalars, withTable, withMajors}
 use Rattle.act.specs.declared.Flow.{Flow}
 use Rattle.act.specs.declared.Step.{Step}
 use Rattle.act.specs.declared.Step.the-variants.{Going, Refused}
@@ -17,25 +19,7 @@ use Rattle.act.specs.declared.Walk.the-variants.{On, Off}
 
 -- the device d, but for what the engine holds apart: scalars, table, majors
 abbrev pub over : Device → Flow → List ℕ → List ℕ → Device
-over d c table majors = record {
-  erq = c .erq;
-  eei = d .eei;
-  int = c .int;
-  err = d .err;
-  kick = c .kick;
-  deferred = d .deferred;
-  deadline = d .deadline;
-  standing = d .standing;
-  table = table;
-  busy = d .busy;
-  majors = majors;
-  taken = d .taken;
-  pending = d .pending;
-  controllers = d .controllers;
-  cr = c .cr;
-  level = d .level;
-  ignore = d .ignore;
-}
+over d c table majors = withMajors (withTable (withScalars d (viewScalars (c .scalars))) table) majors
 
 -- window, journal, table, majors
 abbrev pub world : Device → Flow → List ℕ → List ℕ → List ℕ → List ℕ → World

@@ -1,12 +1,10 @@
 // How far an act has come, as the engine's functions hand it on.
 use rules::Refusal;
+use rules::Scalars;
 
-// The scalar registers that moving samples touches, and the journal's end.
+// The numbers that stand alone, and the journal's end.
 pub struct Flow {
-    pub cr: u32,
-    pub erq: u64,
-    pub int: u64,
-    pub kick: u64,
+    pub scalars: Scalars,
     pub at: usize,
 }
 

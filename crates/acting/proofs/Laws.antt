@@ -120,6 +120,11 @@ module _ (base : ℕ) (lent : Lent) (act : Act (Unit {0})) (d e : Device) (w j�
 pub since : {used at : ℕ} {j₀ j : List ℕ} → Longer used at j₀ j → Since used j₀ j
 since l = record { front = sym (l .front); long = sym (l .long) }
 
+-- what a device does is done from the journal's end on
+pub does-on : (base : ℕ) (lent : Lent) (d e : Device) (w j : List ℕ) (at : ℕ) (m : Act (Unit {0})) → Does m d e → walked (On at) e w j ≡ go base lent m (worldOf d w j at)
+unfolding walked Answers
+does-on base lent d e w j at m h = sym (h base lent w (take at j) (drop at j))
+
 -- ---- what an act touches
 
 pub spared : (t : Touched) {A : Type 0} (m : Act A) (a : A) (d e : HeldDevice) (u f : List ℕ) (v : World) → Typed d → Each (sparing (touchedBy t)) m

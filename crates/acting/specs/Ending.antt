@@ -6,7 +6,7 @@ use Prim.Native.Nat.{ℕ, zero, suc, _≤_}
 use lib.ListN.{length, take}
 use Rattle.rules.specs.Act.{Act}
 use Rattle.rules.specs.Calls.{Told, told, toldActed, toldAfter, verdictNumber, refusalNumber, worldOf, levelled}
-use Rattle.rules.specs.Carry.{ok, unmade, cleared, go, leave, perform, Lent, lending}
+use Rattle.rules.specs.Carry.{Out, ok, unmade, cleared, go, leave, perform, Lent, lending}
 use Rattle.rules.specs.declared.Acted.{Acted}
 use Rattle.rules.specs.State.{Device}
 use Rattle.rules.specs.View.{view}
@@ -18,8 +18,17 @@ use Rattle.rules.specs.declared.Verdict.the-variants as Verdict
 use Rattle.rules.proofs.Each.{Each}
 use Rattle.rules.proofs.Spares.{sparing}
 use Rattle.closing.specs.declared.Touched.{Touched}
-use Rattle.dma_commands.specs.declared.Reached.{Reached}
-use Rattle.dma_commands.specs.Reaching.{reached}
+use Rattle.act.specs.Worlds.{told as step-told, walked}
+use Rattle.act.specs.declared.Step.{Step}
+use Rattle.acting.specs.declared.Reached.{Reached}
+
+-- window and journal beside how far a write came
+abbrev pub reached : Reached → List ℕ → List ℕ → Out (Unit {0})
+reached r w j = walked (r .walk) (view (r .device)) w j
+
+-- numbers and table are put back into a device
+abbrev pub Keeps : Device → Step → List ℕ → Reached → Type 0
+Keeps d s t r = (w j : List ℕ) → reached r w j ≡ step-told s d w j t (d .majors)
 
 -- what is heard, if the call is accepted
 unfoldable pub heardBy : Verdict → Heard → Heard

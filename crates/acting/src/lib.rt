@@ -1,8 +1,8 @@
 // The end of a call that is an act: refused before anything is done, refused on the way, or accepted.
+use act::Step;
 use act::Walk;
 use closing::Noted;
 use closing::Touched;
-use dma_commands::Reached;
 use rules::Acted;
 use rules::Device;
 use rules::Refusal;
@@ -13,7 +13,39 @@ ghost use lib.ListN.{length};
 ghost use Rattle.rules.specs.View.{view};
 ghost use Rattle.rules.specs.declared.Verdict.the-variants as Verdict;
 ghost use Rattle.closing.specs.Closes.{SparedOf};
-ghost use Rattle.acting.specs.Ending.{TakenBack, Ends, Began, Settles};
+ghost use Rattle.acting.specs.Ending.{Keeps, TakenBack, Ends, Began, Settles};
+
+// How far a write came, and the device then: on, with the journal's end, or off for want of room, and then nothing more happens.
+pub struct Reached {
+    pub walk: Walk,
+    pub device: Device,
+}
+
+// The device with numbers and table as the stores left them.
+pub fn put_back(d: Device, s: Step, table: [u8; 2048]) -> Reached
+    ensures { λ r. ⌜ Keeps (view d) s table r ⌝ }
+{
+    let mut kept = d;
+    kept.table = table;
+    match s {
+        Step::Going(c) => {
+            let scalars = c.scalars;
+            kept.scalars = scalars;
+            Reached {
+                walk: Walk::On(c.at),
+                device: kept,
+            }
+        }
+        Step::Refused(n, c) => {
+            let scalars = c.scalars;
+            kept.scalars = scalars;
+            Reached {
+                walk: Walk::Off(n, c.at),
+                device: kept,
+            }
+        }
+    }
+}
 
 // "Each gives its number and leaves window, device and used journal as at entry."
 pub fn refused(d: Device, why: Refusal, used: usize) -> Acted

@@ -9,7 +9,7 @@ use borrow.Author.Tests.{leb-true, ltb-true, ltb-false}
 use lib.Dec.{eqb, leb, ltb}
 use lib.ListN.{length, take, drop}
 use lib.Seq.{drop-drop}
-use Rattle.rules.specs.Act.{Space, window, table, Field, CR, ERQ, EEI, INT, ERR, KICK, DEFERRED, DEADLINE, LEVEL, STANDING, MASKS, FORCED, LINES, CONFIG, BUSY, MAJORS, PENDING, SOURCE, TAKEN}
+use Rattle.rules.specs.Act.{Space, window, table, Field, SCALAR, MASKS, FORCED, LINES, CONFIG, BUSY, MAJORS, PENDING, SOURCE, TAKEN}
 use Rattle.rules.specs.Bytes.{number, bytes, part, splice}
 use Rattle.rules.specs.Carry.{Machine, Rec, stoodAt, stoodIn, legal, there, bytesOf, withBytesOf, withDevice, indexOf, stored, undoRec, undo}
 use Rattle.rules.specs.Fields.{fieldAt, fitsSome, withField, withSome, withNumber}
@@ -139,16 +139,7 @@ module _ (b : List ℕ) (d : Device) {r : Device} where
 
 -- a field and the table are apart
 apart : (f : Field) (v : ℕ) (d : Device) (t : List ℕ) → withTable (withField f v d) t ≡ withField f v (withTable d t)
-apart CR v d t = refl
-apart ERQ v d t = refl
-apart EEI v d t = refl
-apart INT v d t = refl
-apart ERR v d t = refl
-apart KICK v d t = refl
-apart DEFERRED v d t = refl
-apart DEADLINE v d t = refl
-apart LEVEL v d t = refl
-apart STANDING v d t = refl
+apart (SCALAR i) v d t = refl
 apart (MASKS c) v d t = refl
 apart (FORCED c) v d t = refl
 apart (LINES c) v d t = refl

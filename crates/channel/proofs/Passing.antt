@@ -187,23 +187,23 @@ module _ (base : ℕ) (lent : Lent) (u : World) (ch n : ℕ) where
     unfolding requestLoop
     request-refused k e = offered-read base lent ch _ u ∙ rw h (pay _ small ∙ bind-no base lent (pass ch) _ spent e)
 
-module _ (base : ℕ) (lent : Lent) (standing ch : ℕ) (whole : Device → Out (Unit {0})) (f : Flow) (w j t m p : List ℕ) (left : ℕ)
-    (rest : (d : Device) → d .standing ≡ standing → go base lent (requestLoop left ch) (world (withPending d p) f w j t m) ≡ whole d)
+module _ (base : ℕ) (lent : Lent) (ch : ℕ) (whole : Device → Out (Unit {0})) (f : Flow) (w j t m p : List ℕ) (left : ℕ)
+    (rest : (d : Device) → go base lent (requestLoop left ch) (world (withPending d p) f w j t m) ≡ whole d)
   where
-    pub request-out : left ≤ 0 → (d : Device) → d .standing ≡ standing → told (Going f) (withPending d p) w j t m ≡ whole d
+    pub request-out : left ≤ 0 → (d : Device) → told (Going f) (withPending d p) w j t m ≡ whole d
     unfolding told requestLoop go
-    request-out e d h = let z : left ≡ 0 = omega arith in rw z at (rest d h)
+    request-out e d = let z : left ≡ 0 = omega arith in rw z at (rest d)
 
-    module _ (more : 0 < left) {o : Bool} (asked : o ≡ offeredIn (f .erq) standing p ch) where
-      from-asked : (d : Device) → d .standing ≡ standing → go base lent (requestLoop (suc (left - 1)) ch) (world (withPending d p) f w j t m) ≡ whole d
-      from-asked d h = let q : suc (left - 1) ≡ left = omega arith in rw q (rest d h)
+    module _ (more : 0 < left) {o : Bool} (asked : o ≡ offeredIn (f .scalars .erq) (f .scalars .standing) p ch) where
+      from-asked : (d : Device) → go base lent (requestLoop (suc (left - 1)) ch) (world (withPending d p) f w j t m) ≡ whole d
+      from-asked d = let q : suc (left - 1) ≡ left = omega arith in rw q (rest d)
 
-      is-offered : (d : Device) → d .standing ≡ standing → offeredAt ch (world (withPending d p) f w j t m) ≡ o
-      is-offered d h = rw (asked, h)
+      is-offered : (d : Device) → offeredAt ch (world (withPending d p) f w j t m) ≡ o
+      is-offered d = sym asked
 
-      pub request-stop : o ≡ false → (d : Device) → d .standing ≡ standing → told (Going f) (withPending d p) w j t m ≡ whole d
+      pub request-stop : o ≡ false → (d : Device) → told (Going f) (withPending d p) w j t m ≡ whole d
       unfolding told
-      request-stop e d h = sym (request-none base lent (world (withPending d p) f w j t m) ch (left - 1) (is-offered d h ∙ e)) ∙ from-asked d h
+      request-stop e d = sym (request-none base lent (world (withPending d p) f w j t m) ch (left - 1) (is-offered d ∙ e)) ∙ from-asked d
 
       module _ (e : o ≡ true) (p′ : List ℕ) (paid : p′ ≡ set p ch (getD p ch 0 - 1)) (small : getD p ch 0 < 2 ^ 32)
           (k : Lent) (same : k ≡ lent) (r : Passed) (w′ j′ t′ m′ : List ℕ) (did : Passes (pass ch) base k f r w w′ j j′ t t′ m m′)
@@ -211,27 +211,27 @@ module _ (base : ℕ) (lent : Lent) (standing ch : ℕ) (whole : Device → Out 
           ran-asked : (d : Device) → passed r f (withPending d p′) w′ j′ t′ m′ ≡ go base lent (pass ch) (world (withPending d p′) f w j t m)
           ran-asked d = rw same at (did (withPending d p′))
 
-          after-asked : (d : Device) → d .standing ≡ standing → (v : World) (b : Bool) → go base lent (pass ch) (world (withPending d p′) f w j t m) ≡ ok b v
+          after-asked : (d : Device) → (v : World) (b : Bool) → go base lent (pass ch) (world (withPending d p′) f w j t m) ≡ ok b v
               → go base lent (cond b (requestLoop (left - 1) ch) nothing) v ≡ whole d
           unfolding withDevice
-          after-asked d h v b q = sym (request-on base lent (world (withPending d p) f w j t m) ch (left - 1) (is-offered d h ∙ e) small v b (rw paid at q)) ∙ from-asked d h
+          after-asked d v b q = sym (request-on base lent (world (withPending d p) f w j t m) ch (left - 1) (is-offered d ∙ e) small v b (rw paid at q)) ∙ from-asked d
 
-          refused-asked : (d : Device) → d .standing ≡ standing → (v : World) (n : ℕ) → go base lent (pass ch) (world (withPending d p′) f w j t m) ≡ no n v → no n v ≡ whole d
+          refused-asked : (d : Device) → (v : World) (n : ℕ) → go base lent (pass ch) (world (withPending d p′) f w j t m) ≡ no n v → no n v ≡ whole d
           unfolding withDevice
-          refused-asked d h v n q = sym (request-refused base lent (world (withPending d p) f w j t m) ch (left - 1) (is-offered d h ∙ e) small v n (rw paid at q)) ∙ from-asked d h
+          refused-asked d v n q = sym (request-refused base lent (world (withPending d p) f w j t m) ch (left - 1) (is-offered d ∙ e) small v n (rw paid at q)) ∙ from-asked d
 
-          pub request-idle : r ≡ Idle → (d : Device) → d .standing ≡ standing → told (Going f) (withPending d p′) w′ j′ t′ m′ ≡ whole d
+          pub request-idle : r ≡ Idle → (d : Device) → told (Going f) (withPending d p′) w′ j′ t′ m′ ≡ whole d
           unfolding told go
-          request-idle i d h =
-              after-asked d h (world (withPending d p′) f w′ j′ t′ m′) false (pass-idle base lent ch (withPending d p′) f w j t m w′ j′ t′ m′ r (ran-asked d) i)
+          request-idle i d =
+              after-asked d (world (withPending d p′) f w′ j′ t′ m′) false (pass-idle base lent ch (withPending d p′) f w j t m w′ j′ t′ m′ r (ran-asked d) i)
 
           module _ (s : Step) (ran : r ≡ Ran s) where
-            pub request-off : {n : Refusal} {g : Flow} → s ≡ Refused n g → (d : Device) → d .standing ≡ standing → told s (withPending d p′) w′ j′ t′ m′ ≡ whole d
+            pub request-off : {n : Refusal} {g : Flow} → s ≡ Refused n g → (d : Device) → told s (withPending d p′) w′ j′ t′ m′ ≡ whole d
             unfolding told
-            request-off {n} {g} i d h =
-                rw i (refused-asked d h (world (withPending d p′) g w′ j′ t′ m′) (refusalNumber n) (pass-off base lent ch (withPending d p′) f w j t m w′ j′ t′ m′ r (ran-asked d) s n g ran i))
+            request-off {n} {g} i d =
+                rw i (refused-asked d (world (withPending d p′) g w′ j′ t′ m′) (refusalNumber n) (pass-off base lent ch (withPending d p′) f w j t m w′ j′ t′ m′ r (ran-asked d) s n g ran i))
 
-            pub request-again : (g : Flow) → s ≡ Going g → (d : Device) → d .standing ≡ standing
+            pub request-again : (g : Flow) → s ≡ Going g → (d : Device)
                 → go base lent (requestLoop (left - 1) ch) (world (withPending d p′) g w′ j′ t′ m′) ≡ whole d
-            request-again g i d h =
-                after-asked d h (world (withPending d p′) g w′ j′ t′ m′) true (pass-on base lent ch (withPending d p′) f w j t m w′ j′ t′ m′ r (ran-asked d) s g ran i)
+            request-again g i d =
+                after-asked d (world (withPending d p′) g w′ j′ t′ m′) true (pass-on base lent ch (withPending d p′) f w j t m w′ j′ t′ m′ r (ran-asked d) s g ran i)

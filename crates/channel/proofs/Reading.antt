@@ -8,8 +8,10 @@ use lib.ListN.{length, getD}
 use Rattle.rules.specs.Act.{Act, table, ask, fetch, _>>=_}
 use Rattle.rules.specs.Bytes.{number, part}
 use Rattle.rules.specs.Carry.{World, bytesOf, indexOf, fetched, go, Lent}
+use Rattle.rules.specs.Fields.{holds}
 use Rattle.rules.specs.Minor.{descriptor, tcdOf}
 use Rattle.rules.specs.Run.{requests, offered}
+use Rattle.rules.specs.Scalars.{ERQ, STANDING}
 use Rattle.rules.specs.Words.{has}
 use Rattle.rules.specs.declared.Tcd.{Tcd}
 use Rattle.rules.proofs.BytesLaws.{part-part}
@@ -43,7 +45,7 @@ module _ (l : List ℕ) (o : ℕ) where
 
 -- whether a channel is offered in a world
 abbrev pub offeredAt : ℕ → World → Bool
-offeredAt ch u = offeredIn (u .now .dev .erq) (u .now .dev .standing) (u .now .dev .pending) ch
+offeredAt ch u = offeredIn (holds ERQ (u .now .dev)) (holds STANDING (u .now .dev)) (u .now .dev .pending) ch
 
 pub offered-read : (base : ℕ) (lent : Lent) (ch : ℕ) {A : Type 0} (k : Bool → Act A) (u : World) → go base lent (offered ch >>= k) u ≡ go base lent (k (offeredAt ch u)) u
 unfolding offered requests go ask _>>=_ offeredIn

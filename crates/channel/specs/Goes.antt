@@ -19,9 +19,9 @@ abbrev pub Goes : Act (Unit {0}) → ℕ → Lent → Flow → Step → List ℕ
 Goes act base lent c r w w′ j j′ t t′ m m′ = (d : Device) → told r d w′ j′ t′ m′ ≡ go base lent act (world d c w j t m)
 
 -- passes on requests, which spend pending counts
-abbrev pub Asks : Act (Unit {0}) → ℕ → Lent → ℕ → Flow → Step → List ℕ → List ℕ → List ℕ → List ℕ → List ℕ → List ℕ → List ℕ → List ℕ → List ℕ → List ℕ → Type 0
-Asks act base lent standing c r w w′ j j′ t t′ m m′ p p′ =
-    (d : Device) → d .standing ≡ standing → told r (withPending d p′) w′ j′ t′ m′ ≡ go base lent act (world (withPending d p) c w j t m)
+abbrev pub Asks : Act (Unit {0}) → ℕ → Lent → Flow → Step → List ℕ → List ℕ → List ℕ → List ℕ → List ℕ → List ℕ → List ℕ → List ℕ → List ℕ → List ℕ → Type 0
+Asks act base lent c r w w′ j j′ t t′ m m′ p p′ =
+    (d : Device) → told r (withPending d p′) w′ j′ t′ m′ ≡ go base lent act (world (withPending d p) c w j t m)
 
 -- the sum of the bytes of a line's passes
 unfoldable pub lined : Line → Device → List ℕ → List ℕ → List ℕ → List ℕ → Out ℕ

@@ -9,7 +9,7 @@ use rules::DONE;
 use rules::LINE;
 use rules::Refusal;
 ghost use mathlib.Core.Path.{_≡_};
-ghost use Prim.Native.Nat.{_-_, _*_, _^_, _≤_, _<_};
+ghost use Prim.Native.Nat.{_-_, _*_, _^_, _<_};
 ghost use lib.ListN.{length, getD, set};
 ghost use Rattle.rules.specs.Carry.{lending};
 ghost use Rattle.rules.specs.Bytes.{part};
@@ -85,7 +85,7 @@ pub fn start_loop(
     let mut f = c;
     let mut left: usize = 0x8000;
     while 0 < left {
-        let Passed::Ran(s) = minor::dma_minor(f, window, base, table, majors, ch, staging, journal)
+        let Passed::Ran(s) = minor::dma_minor(f, base, window, table, majors, ch, staging, journal)
         else {
             return Step::Going(f);
         };
@@ -135,7 +135,7 @@ pub fn line_loop(
     let mut left: usize = 0x400001;
     while 0 < left {
         let bytes = nbytes_of(table, LINE);
-        let r = minor::dma_minor(f, window, base, table, majors, LINE, staging, journal);
+        let r = minor::dma_minor(f, base, window, table, majors, LINE, staging, journal);
         let csr = csr_of(table, LINE);
         let Passed::Ran(s) = r else {
             return Line::Sum(sum, f);
@@ -160,7 +160,6 @@ pub fn line_loop(
 // that answers no ends the channel's turn, and what was spent for it stays spent.
 pub fn request_loop(
     c: Flow,
-    standing: u64,
     base: u32,
     window: &mut [u8],
     table: &mut [u8; 2048],
@@ -171,16 +170,16 @@ pub fn request_loop(
     journal: &mut [u8],
 ) -> Step
     requires { ⌜ ch < 64 ⌝ }
-    ensures { λ r. ⌜ Asks (requestLoop requestPasses ch) base (lending (length (now (staging .entry)))) standing c r (now (window .entry)) (now (window .exit)) (now (journal .entry)) (now (journal .exit)) (now (table .entry)) (now (table .exit)) (now (majors .entry)) (now (majors .exit)) (now (pending .entry)) (now (pending .exit)) ⌝ }
+    ensures { λ r. ⌜ Asks (requestLoop requestPasses ch) base (lending (length (now (staging .entry)))) c r (now (window .entry)) (now (window .exit)) (now (journal .entry)) (now (journal .exit)) (now (table .entry)) (now (table .exit)) (now (majors .entry)) (now (majors .exit)) (now (pending .entry)) (now (pending .exit)) ⌝ }
 {
     let mut f = c;
     let mut left: usize = 1048577;
     while 0 < left {
-        if !offered(f.erq, standing, pending, ch) {
+        if !offered(f.scalars.erq, f.scalars.standing, pending, ch) {
             return Step::Going(f);
         }
         spend(pending, ch);
-        let Passed::Ran(s) = minor::dma_minor(f, window, base, table, majors, ch, staging, journal)
+        let Passed::Ran(s) = minor::dma_minor(f, base, window, table, majors, ch, staging, journal)
         else {
             return Step::Going(f);
         };

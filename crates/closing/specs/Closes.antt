@@ -9,14 +9,15 @@ use Rattle.rules.specs.Bytes.{splice}
 use Rattle.rules.specs.Calls.{worldOf}
 use Rattle.rules.specs.Carry.{World, Rec, lineOf, endLine, changed, After, made, unmade, ok, cleared, leave}
 use Rattle.rules.specs.Fields.{masksOf, fieldsOf}
+use Rattle.rules.specs.Scalars.{scalarBits, viewScalars}
 use Rattle.rules.specs.State.{Controller, Device}
 use Rattle.rules.specs.View.{viewController}
 use Rattle.rules.specs.declared.Controller.{Controller as HeldController}
 use Rattle.rules.specs.declared.Device.{Device as HeldDevice}
+use Rattle.rules.specs.declared.Scalars.{Scalars}
 use Rattle.rules.proofs.ViewLaws.{noHeld}
 use Rattle.closing.specs.declared.Noted.{Noted}
 use Rattle.closing.specs.declared.Noted.the-variants.{At, Full}
-use Rattle.closing.specs.declared.Small.{Small}
 use Rattle.closing.specs.declared.Touched.{Touched}
 
 -- ---- records, one after the other
@@ -63,42 +64,21 @@ pub record Arrays (touched : Bool) (n : ℕ) (b a : List ℕ) : Type 0 where
 abbrev pub heldAt : List HeldController → ℕ → Controller
 heldAt cs c = viewController (getD cs c noHeld)
 
--- 0 to 9, and then others
-unfoldable pub scalarsIn : Small → List ℕ → List ℕ
-scalarsIn s rest =
-    s .cr ∷ s .erq ∷ s .eei ∷ s .int ∷ s .err ∷ s .kick ∷ s .deferred ∷ s .deadline ∷ s .level ∷ s .standing ∷ rest
-
 -- 0 to 63
-unfoldable pub headIn : Small → List ℕ
-headIn s =
-    scalarsIn s
-    (0 ∷ 0 ∷ 0 ∷ 0 ∷ 0 ∷ 0 ∷ masksOf (heldAt (s .controllers) 0) (masksOf (heldAt (s .controllers) 1) (masksOf (heldAt (s .controllers) 2) (replicate 36 0))))
+unfoldable pub headIn : Scalars → List HeldController → List ℕ
+headIn s k =
+    viewScalars s ++ (replicate (16 - length scalarBits) 0 ++ masksOf (heldAt k 0) (masksOf (heldAt k 1) (masksOf (heldAt k 2) (replicate 36 0))))
 
 -- 0 to 255; busy, majors, pending
-unfoldable pub lowIn : Small → List ℕ → List ℕ → List ℕ → List ℕ
-lowIn s busy majors pending = headIn s ++ (busy ++ (majors ++ pending))
+unfoldable pub lowIn : Scalars → List HeldController → List ℕ → List ℕ → List ℕ → List ℕ
+lowIn s k busy majors pending = headIn s k ++ (busy ++ (majors ++ pending))
 
 -- from 256 on; taken
 unfoldable pub highIn : List HeldController → List ℕ → List ℕ
 highIn k taken = heldAt k 0 .levels ++ (heldAt k 1 .levels ++ (heldAt k 2 .levels ++ (replicate 128 0 ++ taken)))
 
-unfoldable pub fieldsIn : Small → List ℕ → List ℕ → List ℕ → List ℕ → List ℕ
-fieldsIn s busy majors pending taken = lowIn s busy majors pending ++ highIn (s .controllers) taken
-
-abbrev pub smallOf : HeldDevice → Small
-smallOf d = record {
-  erq = d .erq;
-  eei = d .eei;
-  int = d .int;
-  err = d .err;
-  kick = d .kick;
-  deferred = d .deferred;
-  deadline = d .deadline;
-  standing = d .standing;
-  controllers = d .controllers;
-  cr = d .cr;
-  level = d .level;
-}
+unfoldable pub fieldsIn : Scalars → List HeldController → List ℕ → List ℕ → List ℕ → List ℕ → List ℕ
+fieldsIn s k busy majors pending taken = lowIn s k busy majors pending ++ highIn k taken
 
 -- the levels of the three controllers are the same
 pub record SameLevels (k l : List HeldController) : Type 0 where

@@ -3,6 +3,7 @@
 // branches, and a chain of calls is one list of records. Only the end of the chain tells whether the act is made or refused.
 use rules::Controller;
 use rules::Device;
+use rules::Scalars;
 ghost use mathlib.Core.Bool.{false};
 ghost use mathlib.Core.List.{List, _∷_, []};
 ghost use mathlib.Core.Path.{_≡_};
@@ -10,9 +11,10 @@ ghost use Prim.Native.Nat.{ℕ, _≤_, _<_};
 ghost use lib.ListN.{length};
 ghost use Rattle.rules.specs.View.{viewController, view};
 ghost use Rattle.rules.specs.Carry.{line};
+ghost use Rattle.rules.specs.Scalars.{viewScalars};
 ghost use Rattle.rules.specs.Fields.{fieldsOf, masksOf};
 ghost use Rattle.closing.specs.declared.Noted.the-variants.{At};
-ghost use Rattle.closing.specs.Closes.{noting, add, addEnd, Notes, Part, Arrays, scalarsIn, headIn, lowIn, highIn, fieldsIn, smallOf, SameLevels, Spared, SparedOf, Closes};
+ghost use Rattle.closing.specs.Closes.{noting, add, addEnd, Notes, Part, Arrays, headIn, lowIn, highIn, fieldsIn, SameLevels, Spared, SparedOf, Closes};
 
 // Where the next record goes, or that one did not fit: then nothing more happens.
 pub enum Noted {
@@ -27,40 +29,6 @@ pub struct Touched {
     pub pending: bool,
     pub levels: bool,
     pub taken: bool,
-}
-
-// What a device has besides its table and its long arrays, for callers that hold those apart.
-pub struct Small {
-    pub erq: u64,
-    pub eei: u64,
-    pub int: u64,
-    pub err: u64,
-    pub kick: u64,
-    pub deferred: u64,
-    pub deadline: u64,
-    pub standing: u64,
-    pub controllers: [Controller; 3],
-    pub cr: u32,
-    pub level: u8,
-}
-
-pub fn small_of(d: Device) -> Small
-    ensures { λ r. ⌜ r ≡ smallOf d ⌝ }
-{
-    let controllers = d.controllers;
-    Small {
-        erq: d.erq,
-        eei: d.eei,
-        int: d.int,
-        err: d.err,
-        kick: d.kick,
-        deferred: d.deferred,
-        deadline: d.deadline,
-        standing: d.standing,
-        controllers,
-        cr: d.cr,
-        level: d.level,
-    }
 }
 
 // ---- one record
@@ -225,25 +193,12 @@ fn note_bytes(
 // ---- the fields that are not in arrays
 
 // "0 CR, 1 ERQ, 2 EEI, 3 INT, 4 ERR, 5 KICK, 6 DEFERRED, 7 deadline, 8 level, 9 standing requests".
-fn note_scalars(s: Noted, before: Small, after: Small, journal: &mut [u8]) -> Noted
-    ensures { λ r. ⌜ Notes 0 (scalarsIn before []) (scalarsIn after []) s r (now (journal .entry)) (now (journal .exit)) ⌝ }
+fn note_scalars(s: Noted, before: Scalars, after: Scalars, journal: &mut [u8]) -> Noted
+    ensures { λ r. ⌜ Notes 0 (viewScalars before) (viewScalars after) s r (now (journal .entry)) (now (journal .exit)) ⌝ }
 {
-    let cr = note_field(s, 0, before.cr as u64, after.cr as u64, journal);
-    let erq = note_field(cr, 1, before.erq, after.erq, journal);
-    let eei = note_field(erq, 2, before.eei, after.eei, journal);
-    let int = note_field(eei, 3, before.int, after.int, journal);
-    let err = note_field(int, 4, before.err, after.err, journal);
-    let kick = note_field(err, 5, before.kick, after.kick, journal);
-    let deferred = note_field(kick, 6, before.deferred, after.deferred, journal);
-    let deadline = note_field(deferred, 7, before.deadline, after.deadline, journal);
-    let level = note_field(
-        deadline,
-        8,
-        before.level as u64,
-        after.level as u64,
-        journal,
-    );
-    note_field(level, 9, before.standing, after.standing, journal)
+    let b = device::listed(before);
+    let a = device::listed(after);
+    note_wides(s, true, &b, &a, 0, journal)
 }
 
 // "16+4c IMR, then FRC, lines, ICONFIG": of the controller whose first number is `first`.
@@ -270,31 +225,20 @@ fn note_own(
 }
 
 // Fields 0 to 63: between these there are none.
-fn note_head(s: Noted, before: Small, after: Small, journal: &mut [u8]) -> Noted
-    ensures { λ r. ⌜ Notes 0 (headIn before) (headIn after) s r (now (journal .entry)) (now (journal .exit)) ⌝ }
+fn note_head(
+    s: Noted,
+    before: Scalars,
+    after: Scalars,
+    controllers: [Controller; 3],
+    controllers_after: [Controller; 3],
+    journal: &mut [u8],
+) -> Noted
+    ensures { λ r. ⌜ Notes 0 (headIn before controllers) (headIn after «controllers_after») s r (now (journal .entry)) (now (journal .exit)) ⌝ }
 {
     let scalars = note_scalars(s, before, after, journal);
-    let first = note_own(
-        scalars,
-        16,
-        before.controllers[0],
-        after.controllers[0],
-        journal,
-    );
-    let second = note_own(
-        first,
-        20,
-        before.controllers[1],
-        after.controllers[1],
-        journal,
-    );
-    note_own(
-        second,
-        24,
-        before.controllers[2],
-        after.controllers[2],
-        journal,
-    )
+    let first = note_own(scalars, 16, controllers[0], controllers_after[0], journal);
+    let second = note_own(first, 20, controllers[1], controllers_after[1], journal);
+    note_own(second, 24, controllers[2], controllers_after[2], journal)
 }
 
 // ---- all fields, in number order
@@ -303,8 +247,10 @@ fn note_head(s: Noted, before: Small, after: Small, journal: &mut [u8]) -> Noted
 fn note_low(
     s: Noted,
     touched: Touched,
-    before: Small,
-    after: Small,
+    before: Scalars,
+    after: Scalars,
+    controllers: [Controller; 3],
+    controllers_after: [Controller; 3],
     busy: &[u64; 64],
     busy_after: &[u64; 64],
     majors: &[u64; 64],
@@ -314,9 +260,9 @@ fn note_low(
     journal: &mut [u8],
 ) -> Noted
     requires { ⌜ (touched .busy ≡ false → now busy ≡ now «busy_after») × (touched .majors ≡ false → now majors ≡ now «majors_after») × (touched .pending ≡ false → now pending ≡ now «pending_after») ⌝ }
-    ensures { λ r. ⌜ Part 256 0 (lowIn before (now (busy .entry)) (now (majors .entry)) (now (pending .entry))) (lowIn after (now («busy_after» .entry)) (now («majors_after» .entry)) (now («pending_after» .entry))) s r (now (journal .entry)) (now (journal .exit)) ⌝ }
+    ensures { λ r. ⌜ Part 256 0 (lowIn before controllers (now (busy .entry)) (now (majors .entry)) (now (pending .entry))) (lowIn after «controllers_after» (now («busy_after» .entry)) (now («majors_after» .entry)) (now («pending_after» .entry))) s r (now (journal .entry)) (now (journal .exit)) ⌝ }
 {
-    let head = note_head(s, before, after, journal);
+    let head = note_head(s, before, after, controllers, controllers_after, journal);
     let times = note_wides(head, touched.busy, busy, busy_after, 64, journal);
     let counts = note_wides(times, touched.majors, majors, majors_after, 128, journal);
     note_words(
@@ -348,38 +294,38 @@ fn note_levels(
 fn note_high(
     s: Noted,
     touched: Touched,
-    before: Small,
-    after: Small,
+    controllers: [Controller; 3],
+    controllers_after: [Controller; 3],
     taken: &[u64; 192],
     taken_after: &[u64; 192],
     journal: &mut [u8],
 ) -> Noted
-    requires { ⌜ (touched .levels ≡ false → SameLevels (before .controllers) (after .controllers)) × (touched .taken ≡ false → now taken ≡ now «taken_after») ⌝ }
-    ensures { λ r. ⌜ Notes 256 (highIn (before .controllers) (now (taken .entry))) (highIn (after .controllers) (now («taken_after» .entry))) s r (now (journal .entry)) (now (journal .exit)) ⌝ }
+    requires { ⌜ (touched .levels ≡ false → SameLevels controllers «controllers_after») × (touched .taken ≡ false → now taken ≡ now «taken_after») ⌝ }
+    ensures { λ r. ⌜ Notes 256 (highIn controllers (now (taken .entry))) (highIn «controllers_after» (now («taken_after» .entry))) s r (now (journal .entry)) (now (journal .exit)) ⌝ }
 {
     let levels = touched.levels;
     let first = note_levels(
         s,
         levels,
         256,
-        before.controllers[0],
-        after.controllers[0],
+        controllers[0],
+        controllers_after[0],
         journal,
     );
     let second = note_levels(
         first,
         levels,
         320,
-        before.controllers[1],
-        after.controllers[1],
+        controllers[1],
+        controllers_after[1],
         journal,
     );
     let third = note_levels(
         second,
         levels,
         384,
-        before.controllers[2],
-        after.controllers[2],
+        controllers[2],
+        controllers_after[2],
         journal,
     );
     note_wides(third, touched.taken, taken, taken_after, 576, journal)
@@ -390,8 +336,10 @@ fn note_high(
 // For callers that hold the long arrays apart: the act began with `before`, `busy`, `majors`, .. and came to `after`, `busy_after`, ..;
 // its group began at `used`, and the next record goes to `at`. (One lifetime for each side: only so can fields of one device be lent at once.)
 fn end_parts<'a, 'b>(
-    before: Small,
-    after: Small,
+    before: Scalars,
+    after: Scalars,
+    controllers: [Controller; 3],
+    controllers_after: [Controller; 3],
     touched: Touched,
     busy: &'a [u64; 64],
     busy_after: &'b [u64; 64],
@@ -405,14 +353,16 @@ fn end_parts<'a, 'b>(
     used: usize,
     at: usize,
 ) -> Noted
-    requires { ⌜ (used ≤ at) × (at ≤ length (now journal)) × Spared touched (before .controllers) (after .controllers) (now busy) (now «busy_after») (now majors) (now «majors_after») (now pending) (now «pending_after») (now taken) (now «taken_after») ⌝ }
-    ensures { λ r. ⌜ Closes r (fieldsIn before (now (busy .entry)) (now (majors .entry)) (now (pending .entry)) (now (taken .entry))) (fieldsIn after (now («busy_after» .entry)) (now («majors_after» .entry)) (now («pending_after» .entry)) (now («taken_after» .entry))) used at (now (journal .entry)) (now (journal .exit)) ⌝ }
+    requires { ⌜ (used ≤ at) × (at ≤ length (now journal)) × Spared touched controllers «controllers_after» (now busy) (now «busy_after») (now majors) (now «majors_after») (now pending) (now «pending_after») (now taken) (now «taken_after») ⌝ }
+    ensures { λ r. ⌜ Closes r (fieldsIn before controllers (now (busy .entry)) (now (majors .entry)) (now (pending .entry)) (now (taken .entry))) (fieldsIn after «controllers_after» (now («busy_after» .entry)) (now («majors_after» .entry)) (now («pending_after» .entry)) (now («taken_after» .entry))) used at (now (journal .entry)) (now (journal .exit)) ⌝ }
 {
     let low = note_low(
         Noted::At(at),
         touched,
         before,
         after,
+        controllers,
+        controllers_after,
         busy,
         busy_after,
         majors,
@@ -421,14 +371,24 @@ fn end_parts<'a, 'b>(
         pending_after,
         journal,
     );
-    let high = note_high(low, touched, before, after, taken, taken_after, journal);
+    let high = note_high(
+        low,
+        touched,
+        controllers,
+        controllers_after,
+        taken,
+        taken_after,
+        journal,
+    );
     note_end(high, used, journal)
 }
 
 // The same for an act of turns, which change no levels and no taken counts: whatever the taken counts are.
 pub fn end_turns(
-    before: Small,
-    after: Small,
+    before: Scalars,
+    after: Scalars,
+    controllers: [Controller; 3],
+    controllers_after: [Controller; 3],
     busy: &[u64; 64],
     busy_after: &[u64; 64],
     majors: &[u64; 64],
@@ -439,8 +399,8 @@ pub fn end_turns(
     used: usize,
     at: usize,
 ) -> Noted
-    requires { ⌜ (used ≤ at) × (at ≤ length (now journal)) × SameLevels (before .controllers) (after .controllers) ⌝ }
-    ensures { λ r. ⌜ ((taken : List ℕ) → Closes r (fieldsIn before (now (busy .entry)) (now (majors .entry)) (now (pending .entry)) taken) (fieldsIn after (now («busy_after» .entry)) (now («majors_after» .entry)) (now («pending_after» .entry)) taken) used at (now (journal .entry)) (now (journal .exit))) ⌝ }
+    requires { ⌜ (used ≤ at) × (at ≤ length (now journal)) × SameLevels controllers «controllers_after» ⌝ }
+    ensures { λ r. ⌜ ((taken : List ℕ) → Closes r (fieldsIn before controllers (now (busy .entry)) (now (majors .entry)) (now (pending .entry)) taken) (fieldsIn after «controllers_after» (now («busy_after» .entry)) (now («majors_after» .entry)) (now («pending_after» .entry)) taken) used at (now (journal .entry)) (now (journal .exit))) ⌝ }
 {
     let touched = Touched {
         busy: true,
@@ -454,6 +414,8 @@ pub fn end_turns(
         touched,
         before,
         after,
+        controllers,
+        controllers_after,
         busy,
         busy_after,
         majors,
@@ -477,11 +439,15 @@ pub fn end_act(
     requires { ⌜ (used ≤ at) × (at ≤ length (now journal)) × SparedOf touched before after ⌝ }
     ensures { λ r. ⌜ Closes r (fieldsOf (view before)) (fieldsOf (view after)) used at (now (journal .entry)) (now (journal .exit)) ⌝ }
 {
-    let small = small_of(before);
-    let small_after = small_of(after);
+    let scalars = before.scalars;
+    let scalars_after = after.scalars;
+    let controllers = before.controllers;
+    let controllers_after = after.controllers;
     end_parts(
-        small,
-        small_after,
+        scalars,
+        scalars_after,
+        controllers,
+        controllers_after,
         touched,
         &before.busy,
         &after.busy,

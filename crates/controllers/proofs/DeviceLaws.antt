@@ -12,12 +12,13 @@ use lib.Seq.{ext-getD}
 use Rattle.rules.specs.State.{Controller, Device}
 use Rattle.rules.specs.declared.Heard.{Heard}
 use Rattle.rules.specs.declared.Heard.the-variants as Heard
-use Rattle.rules.specs.Act.{acts, put, INT, LEVEL, LINES, SOURCE, TAKEN}
+use Rattle.rules.specs.Act.{acts, put, LINES, SOURCE, TAKEN}
+use Rattle.rules.specs.Scalars.{INT, LEVEL}
 use Rattle.rules.specs.Bytes.{part}
 use Rattle.rules.specs.Carry.{go}
 use Rattle.rules.specs.Fields.{controller, bitsOf, holds, withField}
 use Rattle.rules.specs.View.{viewController, view}
-use Rattle.rules.specs.With.{withControllers, withLevel, withLines}
+use Rattle.rules.specs.With.{withControllers, withLines}
 use Rattle.rules.specs.declared.Controller.{Controller as HeldController}
 use Rattle.rules.specs.declared.Device.{Device as HeldDevice}
 use Rattle.rules.specs.Lines.{driven, sources, levelBytes, levelOf, relevel, above, heardFrom, hear, acknowledge, Found}
@@ -84,27 +85,27 @@ with3 d x y z = withControllers d (x ∷ y ∷ z ∷ [])
 
 module _ (d : Device) (a b c : Controller) (s : Sound (with3 d a b c)) where
   x : Controller
-  x = drivenIn (d .int) (a ∷ b ∷ c ∷ []) 0
+  x = drivenIn (holds INT d) (a ∷ b ∷ c ∷ []) 0
 
   y : Controller
-  y = drivenIn (d .int) (a ∷ b ∷ c ∷ []) 1
+  y = drivenIn (holds INT d) (a ∷ b ∷ c ∷ []) 1
 
   z : Controller
-  z = drivenIn (d .int) (a ∷ b ∷ c ∷ []) 2
+  z = drivenIn (holds INT d) (a ∷ b ∷ c ∷ []) 2
 
-  lines-fit : (i : ℕ) → driven i (d .int) (controller (a ∷ b ∷ c ∷ []) i .lines) < 2 ^ 64
+  lines-fit : (i : ℕ) → driven i (holds INT d) (controller (a ∷ b ∷ c ∷ []) i .lines) < 2 ^ 64
   unfolding bitsOf
-  lines-fit i = driven-fits i (d .int) _ (holds-fits (LINES i) (with3 d a b c) s)
+  lines-fit i = driven-fits i (holds INT d) _ (holds-fits (LINES i) (with3 d a b c) s)
 
   three-does : (n : ℕ) → n < 2 ^ 8 → n ≡ max (levelIn (d .ignore) z) (max (levelIn (d .ignore) y) (levelIn (d .ignore) x))
-      → Does relevel (with3 d a b c) (withLevel (with3 d x y z) n)
+      → Does relevel (with3 d a b c) (withField LEVEL n (with3 d x y z))
   unfolding relevel bitsOf x y z
   three-does n h e =
-      let r : Device = withLevel (with3 d x y z) n in
+      let r : Device = withField LEVEL n (with3 d x y z) in
       answers-bind _ _ (with3 d a b c) (with3 d a b c) r _ _ (answers-ask (with3 d a b c) INT)
-      (answers-then _ _ (with3 d a b c) (with3 d x b c) r _ _ (does-change (with3 d a b c) (LINES 0) (driven 0 (d .int)) (lines-fit 0))
-      (answers-then _ _ (with3 d x b c) (with3 d x y c) r _ _ (does-change (with3 d x b c) (LINES 1) (driven 1 (d .int)) (lines-fit 1))
-      (answers-then _ _ (with3 d x y c) (with3 d x y z) r _ _ (does-change (with3 d x y c) (LINES 2) (driven 2 (d .int)) (lines-fit 2))
+      (answers-then _ _ (with3 d a b c) (with3 d x b c) r _ _ (does-change (with3 d a b c) (LINES 0) (driven 0 (holds INT d)) (lines-fit 0))
+      (answers-then _ _ (with3 d x b c) (with3 d x y c) r _ _ (does-change (with3 d x b c) (LINES 1) (driven 1 (holds INT d)) (lines-fit 1))
+      (answers-then _ _ (with3 d x y c) (with3 d x y z) r _ _ (does-change (with3 d x y c) (LINES 2) (driven 2 (holds INT d)) (lines-fit 2))
       (answers-bind _ _ (with3 d x y z) (with3 d x y z) r _ _ (level-answers (with3 d x y z) 0 (levels-long (with3 d a b c) s 0 (omega arith)))
       (answers-bind _ _ (with3 d x y z) (with3 d x y z) r _ _ (level-answers (with3 d x y z) 1 (levels-long (with3 d a b c) s 1 (omega arith)))
       (answers-bind _ _ (with3 d x y z) (with3 d x y z) r _ _ (level-answers (with3 d x y z) 2 (levels-long (with3 d a b c) s 2 (omega arith)))
@@ -128,12 +129,12 @@ made-anew ignore int cs {x} {y} {z} ex ey ez e0 e1 e2 em en =
     (stored-viewed cs x y z ∙ rw (p, q, r) refl, en ∙ rw (em, e2, e1, e0, p, q, r) refl)
 
 -- a device with them
-pub relevel-does : (d : Device) → Sound d → {cs : List Controller} {n : ℕ} → cs ≡ controllersIn (d .int) (d .controllers)
-    → n ≡ highestIn (d .ignore) (d .int) (d .controllers) → n < 2 ^ 8 → Does relevel d (withLevel (withControllers d cs) n)
+pub relevel-does : (d : Device) → Sound d → {cs : List Controller} {n : ℕ} → cs ≡ controllersIn (holds INT d) (d .controllers)
+    → n ≡ highestIn (d .ignore) (holds INT d) (d .controllers) → n < 2 ^ 8 → Does relevel d (withField LEVEL n (withControllers d cs))
 relevel-does d s {n = n} lines e h =
     rw lines
     (in-three
-    (λ cs. Sound (withControllers d cs) → n ≡ highestIn (d .ignore) (d .int) cs → Does relevel (withControllers d cs) (withLevel (withControllers d (controllersIn (d .int) cs)) n))
+    (λ cs. Sound (withControllers d cs) → n ≡ highestIn (d .ignore) (holds INT d) cs → Does relevel (withControllers d cs) (withField LEVEL n (withControllers d (controllersIn (holds INT d) cs))))
     (λ a b c t k. unfold x y z in three-does d a b c t n h k)
     (d .controllers) (s .three) s e)
 

@@ -9,14 +9,16 @@ use native.Mathlib.Omega.{arith}
 use lib.Bits.{bitAnd, bitOr, or-lt, and-le-r}
 use lib.Dec.{eqb}
 use lib.ListN.{getD}
+use lib.Seq.{getD-set-other}
 use Rattle.rules.specs.State.{Controller, Device}
-use Rattle.rules.specs.Act.{ERQ, KICK, STANDING, LINES, PENDING}
+use Rattle.rules.specs.Act.{LINES, PENDING}
+use Rattle.rules.specs.Scalars.{ERQ, KICK, STANDING}
 use Rattle.rules.specs.Calls.{setInputs}
-use Rattle.rules.specs.Fields.{controller, bitsOf}
+use Rattle.rules.specs.Fields.{controller, bitsOf, holds, withField}
 use Rattle.rules.specs.Lines.{ownedFrom}
 use Rattle.rules.specs.Run.{waiting, requesting}
 use Rattle.rules.specs.View.{viewController, view}
-use Rattle.rules.specs.With.{withControllers, withKick, withLines, withStanding}
+use Rattle.rules.specs.With.{withControllers, withLines}
 use Rattle.rules.specs.Words.{gain}
 use Rattle.rules.specs.declared.Controller.{Controller as HeldController}
 use Rattle.rules.specs.declared.Device.{Device as HeldDevice}
@@ -35,9 +37,9 @@ unfolding waiting waitingIn
 waiting-answers d zero ch m = answers-done d m
 waiting-answers d (suc n) ch m = answers-bind _ _ d d d _ _ (answers-ask d (PENDING ch)) (waiting-answers d n (suc ch) _)
 
-pub requesting-answers : (d : Device) {r : ℕ} → r ≡ waitingIn (d .pending) 64 0 (d .standing) → Answers requesting d r d
+pub requesting-answers : (d : Device) {r : ℕ} → r ≡ waitingIn (d .pending) 64 0 (holds STANDING d) → Answers requesting d r d
 unfolding requesting
-requesting-answers d e = rw e (answers-bind _ _ d d d _ _ (answers-ask d STANDING) (waiting-answers d 64 0 (d .standing)))
+requesting-answers d e = rw e (answers-bind _ _ d d d _ _ (answers-ask d STANDING) (waiting-answers d 64 0 (holds STANDING d)))
 
 -- a turn of the loop over the channels
 pub waiting-turn : (counts : List ℕ) (i m whole : ℕ) {m′ : ℕ} → i < 64 → m′ ≡ cond (eqb (getD counts i 0) 0) m (gain m i)
@@ -66,18 +68,21 @@ giving-viewed d c lines = ap (λ (k : Controller). withLines k (ownedFrom c (k .
 
 -- KICK gains those that request and have their ERQ bit set
 abbrev pub gaining : Device → ℕ → ℕ
-gaining d asking = bitOr (d .kick) (bitAnd asking (d .erq))
+gaining d asking = bitOr (holds KICK d) (bitAnd asking (holds ERQ d))
 
 module _ (s l0 l1 l2 : ℕ) (hs : s < 2 ^ 64) (h0 : l0 < 2 ^ 64) (h1 : l1 < 2 ^ 64) (h2 : l2 < 2 ^ 64) where
   abbrev given : Device → List Controller → Device
-  given d cs = withStanding (withControllers d cs) s
+  given d cs = withField STANDING s (withControllers d cs)
 
   abbrev all : Device → List Controller → List Controller
   all d cs = stored3 cs (giving (withControllers d cs) 0 l0) (giving (withControllers d cs) 1 l1) (giving (withControllers d cs) 2 l2)
 
-  kick-fits : (d : Device) → Sound d → (asking : ℕ) → gaining d asking < 2 ^ 64
+  kick-fits : (d : Device) → Sound d → (asking : ℕ) → gaining (withField STANDING s d) asking < 2 ^ 64
   unfolding bitsOf
-  kick-fits d t asking = or-lt 64 (d .kick) _ (holds-fits KICK d t) (lt-of-le-of-lt (and-le-r asking (d .erq)) (holds-fits ERQ d t))
+  kick-fits d t asking =
+      let kick : holds KICK (withField STANDING s d) ≡ holds KICK d = getD-set-other (d .scalars) 9 5 s 0 (λ e. omega arith) in
+      let erq : holds ERQ (withField STANDING s d) ≡ holds ERQ d = getD-set-other (d .scalars) 9 1 s 0 (λ e. omega arith) in
+      rw (kick, erq) (or-lt 64 (holds KICK d) _ (holds-fits KICK d t) (lt-of-le-of-lt (and-le-r asking (holds ERQ d)) (holds-fits ERQ d t)))
 
   module _ (d : Device) (a b c : Controller) (t : Sound (with3 d a b c)) (asking : ℕ) where
     x : Controller
@@ -90,38 +95,38 @@ module _ (s l0 l1 l2 : ℕ) (hs : s < 2 ^ 64) (h0 : l0 < 2 ^ 64) (h1 : l1 < 2 ^ 
     z = giving (with3 d a b c) 2 l2
 
     abbrev last : Device
-    last = withStanding (with3 d x y z) s
+    last = withField STANDING s (with3 d x y z)
 
-    three-given : Answers requesting last asking last → Does (setInputs s l0 l1 l2) (with3 d a b c) (withKick last (gaining d asking))
+    three-given : Answers requesting last asking last → Does (setInputs s l0 l1 l2) (with3 d a b c) (withField KICK (gaining last asking) last)
     unfolding setInputs bitsOf x y z
     three-given asks =
-        let r : Device = withKick last (gaining d asking) in
-        let d0 : Device = withStanding (with3 d a b c) s in
-        let d1 : Device = withStanding (with3 d x b c) s in
-        let d2 : Device = withStanding (with3 d x y c) s in
+        let r : Device = withField KICK (gaining last asking) last in
+        let d0 : Device = withField STANDING s (with3 d a b c) in
+        let d1 : Device = withField STANDING s (with3 d x b c) in
+        let d2 : Device = withField STANDING s (with3 d x y c) in
         answers-then _ _ (with3 d a b c) d0 r _ _ (does-put (with3 d a b c) STANDING s hs)
         (answers-then _ _ d0 d1 r _ _ (does-change d0 (LINES 0) (λ old. ownedFrom 0 old l0) (owned-fits 0 (a .lines) l0 h0))
         (answers-then _ _ d1 d2 r _ _ (does-change d1 (LINES 1) (λ old. ownedFrom 1 old l1) (owned-fits 1 (b .lines) l1 h1))
         (answers-then _ _ d2 last r _ _ (does-change d2 (LINES 2) (λ old. ownedFrom 2 old l2) (owned-fits 2 (c .lines) l2 h2))
         (answers-bind _ _ last last r _ _ (answers-ask last ERQ)
         (answers-bind _ _ last last r _ _ asks
-        (does-change last KICK (λ k. bitOr k (bitAnd asking (d .erq))) (kick-fits (with3 d a b c) t asking)))))))
+        (does-change last KICK (λ k. bitOr k (bitAnd asking (holds ERQ last))) (kick-fits (with3 d a b c) t asking)))))))
 
   -- as code makes it: the lines of each, then the requesting channels of that device
   pub inputs-does : (d : Device) → Sound d → (asking : ℕ) {x y z : Controller} → x ≡ giving d 0 l0 → y ≡ giving d 1 l1 → z ≡ giving d 2 l2
       → Answers requesting (given d (stored3 (d .controllers) x y z)) asking (given d (stored3 (d .controllers) x y z))
-      → Does (setInputs s l0 l1 l2) d (withKick (given d (stored3 (d .controllers) x y z)) (gaining d asking))
+      → Does (setInputs s l0 l1 l2) d (let e = given d (stored3 (d .controllers) x y z) in withField KICK (gaining e asking) e)
   inputs-does d t asking ex ey ez =
       rw (ex, ey, ez)
       (in-three
       (λ cs. Sound (withControllers d cs)
       → Answers requesting (given d (all d cs)) asking (given d (all d cs))
-      → Does (setInputs s l0 l1 l2) (withControllers d cs) (withKick (given d (all d cs)) (gaining d asking)))
+      → Does (setInputs s l0 l1 l2) (withControllers d cs) (withField KICK (gaining (given d (all d cs)) asking) (given d (all d cs))))
       (λ a b c t asks. unfold x y z in three-given d a b c t asking asks)
       (d .controllers) (t .three) t)
 
   -- the same of a device as code holds it
   pub inputs-held : (d : HeldDevice) → Sound (view d) → (asking : ℕ) {x y z : HeldController} → viewController x ≡ givingHeld d 0 l0 → viewController y ≡ givingHeld d 1 l1 → viewController z ≡ givingHeld d 2 l2
-      → let e = given (view d) (map viewController (stored3 (d .controllers) x y z)) in Answers requesting e asking e → Does (setInputs s l0 l1 l2) (view d) (withKick e (gaining (view d) asking))
+      → let e = given (view d) (map viewController (stored3 (d .controllers) x y z)) in Answers requesting e asking e → Does (setInputs s l0 l1 l2) (view d) (withField KICK (gaining e asking) e)
   inputs-held d t asking {x} {y} {z} ex ey ez =
       rw (stored-viewed (d .controllers) x y z) (inputs-does (view d) t asking (ex ∙ giving-viewed d 0 l0) (ey ∙ giving-viewed d 1 l1) (ez ∙ giving-viewed d 2 l2))

@@ -133,11 +133,11 @@ pub fn update_irq(d: Device) -> Device
     ensures { λ r. ⌜ Does relevel (view d) (view r) ⌝ }
 {
     let before = d.controllers;
-    let r = relevelled(before, d.int, d.ignore_masks);
+    let r = relevelled(before, d.scalars.int, d.ignore_masks);
     let controllers = r.controllers;
     let mut e = d;
     e.controllers = controllers;
-    e.level = r.level;
+    e.scalars.level = r.level;
     e
 }
 
@@ -286,7 +286,7 @@ pub fn requesting(d: Device) -> u64
     ensures { λ r. ⌜ Answers requesting (view d) r (view d) ⌝ }
 {
     let pending = d.pending;
-    waiting(d.standing, &pending)
+    waiting(d.scalars.standing, &pending)
 }
 
 // A controller with lines that are given: "the masks replace the old ones, except DMA-owned line bits".
@@ -306,11 +306,11 @@ pub fn with_inputs(d: Device, standing: u64, l0: u64, l1: u64, l2: u64) -> Devic
     let y = given(l1, 1, d.controllers[1]);
     let z = given(l2, 2, d.controllers[2]);
     let mut e = d;
-    e.standing = standing;
+    e.scalars.standing = standing;
     e.controllers[0] = x;
     e.controllers[1] = y;
     e.controllers[2] = z;
-    e.kick = e.kick | (requesting(e) & e.erq);
+    e.scalars.kick = e.scalars.kick | (requesting(e) & e.scalars.erq);
     e
 }
 

@@ -1,20 +1,24 @@
 -- The laws that the proofs of this crate cite: a spot and its field, the bits of a value, a controller's bounds. Assumes nothing.
-use mathlib.Core.Bool.{true, false}
+use mathlib.Core.Bool.{Bool, true, false, cond}
 use mathlib.Core.List.{List, [], _∷_}
 use mathlib.Core.Option.{Option, none, some}
-use mathlib.Core.Path.{_≡_, refl, sym, ap, _∙_, subst}
-use Prim.Native.Nat.{ℕ, zero, suc, _≤_, _<_}
+use mathlib.Core.Path.{_≡_, refl, sym, ap, ap₂, _∙_, subst}
+use Prim.Native.Nat.{ℕ, zero, suc, _+_, _%_, _^_, _≤_, _<_}
+use native.Mathlib.Nat.{zero-add, add-zero, add-suc, suc-add, mod-eq-of-lt}
 use native.Mathlib.Omega.{arith}
 use borrow.Author.Tests.{ltb-true, leb-true}
 use lib.Dec.{leb, ltb, lit≤}
-use lib.ListN.{getD, drop, List·getD-append}
-use Rattle.rules.specs.Act.{Field, CR, ERQ, EEI, INT, ERR, KICK, DEFERRED, DEADLINE, LEVEL, STANDING, MASKS, FORCED, LINES, CONFIG, BUSY, MAJORS, PENDING, SOURCE, TAKEN}
-use Rattle.rules.specs.Fields.{joined, bitsOf, ofController, controller, withSome, withNumber, fieldAt, fitsSome}
+use lib.ListN.{getD, set, length}
+use Rattle.rules.specs.Act.{Field, SCALAR, MASKS, FORCED, LINES, CONFIG, BUSY, MAJORS, PENDING, SOURCE, TAKEN}
+use Rattle.rules.specs.Scalars.{scalarBits, viewScalars}
+use Rattle.rules.specs.Fields.{bitsOf, ofController, controller, withSome, withNumber, fieldAt, fitsSome}
 use Rattle.rules.specs.State.{Device}
-use Rattle.rules.proofs.FieldLaws.{Sound, levels-long, holds-fits, bitParts, fieldBits, Agrees}
-use Rattle.rules.proofs.Numbers.{agrees-at}
+use Rattle.rules.proofs.FieldLaws.{Sound, levels-long, holds-fits}
+use Rattle.rules.specs.declared.Scalars.{Scalars}
+use Rattle.rules.proofs.PartLaws.{any-default, Within, within-set}
+use Rattle.rules.proofs.ScalarLaws.{scalar-bits}
 use Rattle.device.specs.declared.Spot.{Spot}
-use Rattle.device.specs.Spots.{Fits, Found, named, Inside, bitsSome, bitsAt}
+use Rattle.device.specs.Spots.{low, cut, Fits, Found, named, Inside, bitsSome, bitsAt}
 
 -- ---- a controller
 
@@ -52,16 +56,7 @@ module _ {n : ℕ} {s t : Spot} (p : Found n s) (e : s ≡ t) where
 -- every field has some, and at most 64
 pub some-to-64 : (f : Field) → (ltb 0 (bitsOf f) ≡ true) × (leb (bitsOf f) 64 ≡ true)
 unfolding bitsOf
-some-to-64 CR = (refl, refl)
-some-to-64 ERQ = (refl, refl)
-some-to-64 EEI = (refl, refl)
-some-to-64 INT = (refl, refl)
-some-to-64 ERR = (refl, refl)
-some-to-64 KICK = (refl, refl)
-some-to-64 DEFERRED = (refl, refl)
-some-to-64 DEADLINE = (refl, refl)
-some-to-64 LEVEL = (refl, refl)
-some-to-64 STANDING = (refl, refl)
+some-to-64 (SCALAR i) = scalar-bits i
 some-to-64 (MASKS c) = (refl, refl)
 some-to-64 (FORCED c) = (refl, refl)
 some-to-64 (LINES c) = (refl, refl)
@@ -80,19 +75,9 @@ bits-most n = most (fieldAt n)
     most (some f) = leb-true (bitsOf f) 64 (some-to-64 f .1)
 
 -- the code's tables
-bits-listed : (n : ℕ) → n < 768 → getD fieldBits n 0 ≡ bitsAt n
-bits-listed n h = by (fieldAt n) (agrees-at n h)
-  where
-    by : (o : Option Field) → Agrees n (getD fieldBits n 0) o → getD fieldBits n 0 ≡ bitsSome o
-    by none a = a
-    by (some f) a = sym (a .bits)
-
-abbrev scalarBits : List ℕ
-scalarBits = 32 ∷ 64 ∷ 64 ∷ 64 ∷ 64 ∷ 64 ∷ 64 ∷ 64 ∷ 8 ∷ 64 ∷ []
-
-pub scalar-bits : (n : ℕ) → n < 10 → getD scalarBits n 0 ≡ bitsAt n
-unfolding fieldBits bitParts joined
-scalar-bits n h = sym (List·getD-append scalarBits (drop 10 fieldBits) 0 n h) ∙ bits-listed n (omega arith)
+pub listed-bits : (n : ℕ) → n < length scalarBits → getD scalarBits n 0 ≡ bitsOf (SCALAR n)
+unfolding bitsOf
+listed-bits n h = any-default scalarBits n 0 64 h
 
 pub own-bits : (c k : ℕ) → k < 4 → getD (64 ∷ 64 ∷ 64 ∷ 16 ∷ []) k 0 ≡ bitsOf (ofController k c)
 unfolding bitsOf ofController
@@ -110,6 +95,30 @@ module _ (n v : ℕ) {b : ℕ} (e : b ≡ bitsAt n) where
       by none q = refl
       by (some f) q = absurd (omega (arith, ltb-true 0 (bitsOf f) (some-to-64 f .0)))
 
--- the last number of a match
-pub past : (m n : ℕ) → m ≤ n → (n ≡ m → ⊥) → suc m ≤ n
-past m n h k = omega arith
+-- ---- numbers cut to their bits
+
+low-fits : (b x : ℕ) → x < 2 ^ b → low b x ≡ x
+unfolding low
+low-fits b x h = by (leb 64 b)
+  where
+    by : (t : Bool) → cond t x (x % 2 ^ b) ≡ x
+    by true = refl
+    by false = mod-eq-of-lt h
+
+-- those that have no more bits stay
+cut-fits : (n : ℕ) (bs l xs : List ℕ) → ((i : ℕ) → getD l (n + i) 0 ≡ getD xs i 0) → Within bs xs → cut n bs l ≡ xs
+unfolding cut
+cut-fits n [] l [] e h = refl
+cut-fits n [] l (x ∷ xs) e h = absurd h
+cut-fits n (b ∷ bs) l [] e h = absurd h
+cut-fits n (b ∷ bs) l (x ∷ xs) e h =
+    ap₂ (λ y ys. y ∷ ys) (ap (λ (k : ℕ). low b (getD l k 0)) (sym (add-zero n)) ∙ ap (low b) (e 0) ∙ low-fits b x (h .0))
+    (cut-fits (suc n) bs l xs (λ i. ap (λ (k : ℕ). getD l k 0) (suc-add n i ∙ sym (add-suc n i)) ∙ e (suc i)) (h .1))
+
+-- one of them stored
+pub scalar-stored : (s r : Scalars) (n v : ℕ) {l : List ℕ} → Within scalarBits (viewScalars s) → v < 2 ^ getD scalarBits n 64
+    → l ≡ viewScalars s → viewScalars r ≡ cut 0 scalarBits (set l n v) → viewScalars r ≡ set (viewScalars s) n v
+scalar-stored s r n v {l} h k p e =
+    let q : set l n v ≡ set (viewScalars s) n v = ap (λ (m : List ℕ). set m n v) p in
+    e ∙ cut-fits 0 scalarBits (set l n v) (set (viewScalars s) n v) (λ i. ap (λ (m : List ℕ). getD m (0 + i) 0) q ∙ ap (λ (m : ℕ). getD (set (viewScalars s) n v) m 0) (zero-add i))
+    (within-set scalarBits (viewScalars s) n v h (λ m. subst (λ b. v < 2 ^ b) (any-default scalarBits n 64 0 m) k))

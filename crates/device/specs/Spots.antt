@@ -1,19 +1,31 @@
 -- Where the field of a number stands in a device, and how many bits it has; what is known of a controller. Assumes nothing.
+use mathlib.Core.Bool.{cond}
+use mathlib.Core.List.{List, [], _∷_}
 use mathlib.Core.Option.{Option, none, some}
 use mathlib.Core.Path.{_≡_}
-use Prim.Native.Nat.{ℕ, _^_, _<_}
-use lib.ListN.{length}
-use Rattle.rules.specs.Act.{Field, BUSY, MAJORS, PENDING, SOURCE, TAKEN}
+use Prim.Native.Nat.{ℕ, suc, _%_, _^_, _<_}
+use lib.Dec.{leb}
+use lib.ListN.{length, getD}
+use Rattle.rules.specs.Act.{Field, SCALAR, BUSY, MAJORS, PENDING, SOURCE, TAKEN}
 use Rattle.rules.specs.Bytes.{Bytes}
 use Rattle.rules.specs.Fields.{bitsOf, ofController, fieldAt}
+use Rattle.rules.specs.Scalars.{scalarBits}
 use Rattle.rules.specs.State.{Controller}
 use Rattle.device.specs.declared.Spot.{Spot}
 use Rattle.device.specs.declared.Spot.the-variants.{Nowhere, Scalar, Own, Busy, Majors, Pending, Source, Taken}
 
+-- the low bits of a number of 64; and numbers from place n on, each cut to its bits
+unfoldable pub low : ℕ → ℕ → ℕ
+low b x = cond (leb 64 b) x (x % 2 ^ b)
+
+unfoldable pub cut : ℕ → List ℕ → List ℕ → List ℕ
+cut n [] v = []
+cut n (b ∷ bs) v = low b (getD v n 0) ∷ cut (suc n) bs v
+
 -- the field that stands there
 abbrev pub named : Spot → Option Field
 named Nowhere = none
-named (Scalar n) = fieldAt n
+named (Scalar n) = some (SCALAR n)
 named (Own c k) = some (ofController k c)
 named (Busy ch) = some (BUSY ch)
 named (Majors ch) = some (MAJORS ch)
@@ -24,7 +36,7 @@ named (Taken i) = some (TAKEN i)
 -- there is such a place
 abbrev pub Inside : Spot → Type 0
 Inside Nowhere = Unit {0}
-Inside (Scalar n) = n < 10
+Inside (Scalar n) = n < length scalarBits
 Inside (Own c k) = (c < 3) × (k < 4)
 Inside (Busy ch) = ch < 64
 Inside (Majors ch) = ch < 64

@@ -2,14 +2,17 @@
 // Each contract is an equation with a definition of crate `rules` (specs/Fields.antt, specs/Calls.antt).
 use rules::Controller;
 use rules::Device;
+use rules::Scalars;
 ghost use mathlib.Core.Path.{_≡_};
 ghost use mathlib.Core.Bool.{true};
-ghost use Prim.Native.Nat.{_<_, _^_};
+ghost use Prim.Native.Nat.{_<_, _≤_, _^_};
+ghost use lib.ListN.{length, getD, set};
 ghost use Rattle.rules.specs.Act.{MASKS, FORCED, LINES, CONFIG, BUSY, MAJORS, PENDING, SOURCE, TAKEN};
 ghost use Rattle.rules.specs.Fields.{controller, withField, withNumber, bitsOf, ofController, fieldAt, fitsSome};
 ghost use Rattle.rules.specs.Calls.{fresh, freshController};
+ghost use Rattle.rules.specs.Scalars.{scalarBits, viewScalars};
 ghost use Rattle.rules.specs.View.{viewController, view};
-ghost use Rattle.device.specs.Spots.{Fits, Found, bitsAt};
+ghost use Rattle.device.specs.Spots.{cut, Fits, Found, bitsAt};
 
 // ---- "A fresh device is zero in every field, except masks (all ones) and deadline (2^64 - 1)."
 
@@ -31,23 +34,69 @@ pub fn fresh(ignore_masks: bool) -> Device
 {
     let c = fresh_controller();
     Device {
-        erq: 0,
-        eei: 0,
-        int: 0,
-        err: 0,
-        kick: 0,
-        deferred: 0,
-        deadline: 0xFFFFFFFFFFFFFFFF,
-        standing: 0,
+        scalars: Scalars {
+            erq: 0,
+            eei: 0,
+            int: 0,
+            err: 0,
+            kick: 0,
+            deferred: 0,
+            deadline: 0xFFFFFFFFFFFFFFFF,
+            standing: 0,
+            cr: 0,
+            level: 0,
+        },
         table: [0u8; 2048],
         busy: [0u64; 64],
         majors: [0u64; 64],
         taken: [0u64; 192],
         pending: [0u32; 64],
         controllers: [c, c, c],
-        cr: 0,
-        level: 0,
         ignore_masks,
+    }
+}
+
+// ---- the numbers that stand alone, in the order of document 01's numbers
+
+// How many there are.
+const SCALARS: usize = 10;
+
+// "CR [..]: 32 bits; [..] levels 8; others 64."
+const SCALAR_BITS: [u32; 10] = [32, 64, 64, 64, 64, 64, 64, 64, 8, 64];
+
+pub fn listed(s: Scalars) -> [u64; 10]
+    ensures { λ r. ⌜ r ≡ viewScalars s ⌝ }
+{
+    [
+        s.cr as u64,
+        s.erq,
+        s.eei,
+        s.int,
+        s.err,
+        s.kick,
+        s.deferred,
+        s.deadline,
+        s.level as u64,
+        s.standing,
+    ]
+}
+
+// The same from a list, each cut to its bits.
+pub fn from_list(v: &[u64]) -> Scalars
+    requires { ⌜ length scalarBits ≤ length (now v) ⌝ }
+    ensures { λ r. ⌜ viewScalars r ≡ cut 0 scalarBits (now (v .entry)) ⌝ }
+{
+    Scalars {
+        erq: v[1],
+        eei: v[2],
+        int: v[3],
+        err: v[4],
+        kick: v[5],
+        deferred: v[6],
+        deadline: v[7],
+        standing: v[9],
+        cr: (v[0] % 0x100000000) as u32,
+        level: (v[8] % 0x100) as u8,
     }
 }
 
@@ -163,7 +212,7 @@ enum Spot {
 fn spot_of(n: usize) -> Spot
     ensures { λ r. ⌜ Found n r ⌝ }
 {
-    if n < 10 {
+    if n < SCALARS {
         return Spot::Scalar(n);
     }
     if n < 16 {
@@ -196,9 +245,7 @@ fn spot_of(n: usize) -> Spot
     Spot::Nowhere
 }
 
-// "CR, pending: 32 bits; ICONFIG 16; levels 8; others 64."
-const SCALAR_BITS: [u32; 10] = [32, 64, 64, 64, 64, 64, 64, 64, 8, 64];
-
+// "ICONFIG 16; [..] others 64."
 const OWN_BITS: [u32; 4] = [64, 64, 64, 16];
 
 // How many bits the field of a number has; 0: there is no such field.
@@ -218,24 +265,13 @@ pub fn field_bits(n: usize) -> u32
     }
 }
 
-fn with_scalar(d: Device, n: usize, v: u64) -> Device
-    requires { ⌜ (n < 10) × (fitsSome (fieldAt n) v ≡ true) ⌝ }
-    ensures { λ r. ⌜ view r ≡ withNumber n v (view d) ⌝ }
+fn with_scalar(s: Scalars, n: usize, v: u64) -> Scalars
+    requires { ⌜ (n < length scalarBits) × (v < 2 ^ getD scalarBits n 64) ⌝ }
+    ensures { λ r. ⌜ viewScalars r ≡ set (viewScalars s) n v ⌝ }
 {
-    let mut e = d;
-    match n {
-        0 => e.cr = v as u32,
-        1 => e.erq = v,
-        2 => e.eei = v,
-        3 => e.int = v,
-        4 => e.err = v,
-        5 => e.kick = v,
-        6 => e.deferred = v,
-        7 => e.deadline = v,
-        8 => e.level = v as u8,
-        _ => e.standing = v,
-    }
-    e
+    let mut l = listed(s);
+    l[n] = v;
+    from_list(&l)
 }
 
 fn with_own(d: Device, c: usize, k: usize, v: u64) -> Device
@@ -258,7 +294,12 @@ pub fn with_number(d: Device, n: usize, v: u64) -> Device
     let spot = spot_of(n);
     match spot {
         Spot::Nowhere => d,
-        Spot::Scalar(i) => with_scalar(d, i, v),
+        Spot::Scalar(i) => {
+            let mut e = d;
+            let scalars = d.scalars;
+            e.scalars = with_scalar(scalars, i, v);
+            e
+        }
         Spot::Own(c, k) => with_own(d, c, k, v),
         Spot::Busy(ch) => with_busy(d, ch, v),
         Spot::Majors(ch) => with_majors(d, ch, v),

@@ -9,18 +9,18 @@ use lib.Bits.{bitOr}
 use lib.Dec.{ltb}
 use lib.ListN.{length}
 use Rattle.rules.specs.State.{Device}
-use Rattle.rules.specs.Act.{Act, Field, table, nothing, fetch, store, change, when, _>>=_, _>>_, KICK}
+use Rattle.rules.specs.Act.{Act, Field, table, nothing, fetch, store, change, when, _>>=_, _>>_}
+use Rattle.rules.specs.Scalars.{KICK}
 use Rattle.rules.specs.Bytes.{number}
-use Rattle.rules.specs.Calls.{isNone, orNothing, worldOf, badSize}
-use Rattle.rules.specs.Carry.{Out, ok, go, legal, Lent}
+use Rattle.rules.specs.Calls.{isNone, orNothing, badSize}
+use Rattle.rules.specs.Carry.{Out, legal, Lent}
 use Rattle.rules.specs.Fields.{bitsOf, holds, withField}
 use Rattle.rules.specs.Registers.{within, inTable, command, tableWrite, pick, dmaArms, dmaWrite}
 use Rattle.rules.specs.Minor.{START}
 use Rattle.rules.specs.Words.{has, gain}
 use Rattle.act.specs.Does.{Does}
-use Rattle.act.specs.Worlds.{told, walked, on}
+use Rattle.act.specs.Worlds.{told, on}
 use Rattle.act.specs.declared.Step.{Step}
-use Rattle.act.specs.declared.Walk.the-variants.{On}
 use Rattle.act.proofs.DoesLaws.{does-change}
 use Rattle.act.proofs.Laws.{then, fetched}
 use Rattle.masks.proofs.Ranges.{never}
@@ -86,14 +86,12 @@ pub changed-to : (d : Device) (f : Field) (g : ℕ → ℕ) {x : ℕ} → x ≡ 
 changed-to d f g e h = rw e (does-change d f g (rw e at h))
 
 -- a descriptor write: its store, and then KICK
-module _ (base : ℕ) (lent : Lent) (d : Device) (w j : List ℕ) (at off size v : ℕ) (s : Step) (j′ t l : List ℕ) where
-  pub table-written : {r o p : Out (Unit {0})} {b : Bool} {m : ℕ} → 32 * (off / 32) + 0x1F + 1 ≤ length t → b ≡ startsIn t off size → m ≡ 2 ^ (off / 32)
-      → r ≡ on base lent (when b (change KICK (λ k. bitOr k m))) o → o ≡ told s d w j′ t l
-      → told s d w j′ t l ≡ on base lent (store table off size v) p → p ≡ walked (On at) d w j
-      → r ≡ go base lent (tableWrite off size v) (worldOf d w j at)
-  unfolding tableWrite startsIn gain walked on
-  table-written h e f kicks back stores begins =
+module _ (base : ℕ) (lent : Lent) (d : Device) (w : List ℕ) (off size v : ℕ) (s : Step) (j t l : List ℕ) where
+  pub table-written : (o : Out (Unit {0})) {r : Out (Unit {0})} {b : Bool} {m : ℕ} → 32 * (off / 32) + 0x1F + 1 ≤ length t → b ≡ startsIn t off size → m ≡ 2 ^ (off / 32)
+      → r ≡ on base lent (when b (change KICK (λ k. bitOr k m))) (told s d w j t l) → told s d w j t l ≡ on base lent (store table off size v) o
+      → r ≡ on base lent (tableWrite off size v) o
+  unfolding tableWrite startsIn gain
+  table-written o h e f kicks stores =
       let rest : List ℕ → Act (Unit {0}) = λ b. when (ltb (32 * (off / 32) + 0x1F) (off + size) && has (number b) START) (change KICK (λ k. bitOr k (2 ^ (off / 32)))) in
-      then base lent (store table off size v) (fetch table (32 * (off / 32) + 0x1F) 1 >>= rest) (ok tt (worldOf d w j at))
-      (kicks ∙ rw (back, e, f) (sym (fetched base lent s d w j′ t l (32 * (off / 32) + 0x1F) 1 rest h)))
-      (stores ∙ rw begins refl)
+      then base lent (store table off size v) (fetch table (32 * (off / 32) + 0x1F) 1 >>= rest) o
+      (kicks ∙ rw (e, f) (sym (fetched base lent s d w j t l (32 * (off / 32) + 0x1F) 1 rest h))) stores

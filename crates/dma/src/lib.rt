@@ -1,17 +1,17 @@
 // The DMA registers and the descriptor table, written.
-use act::Walk;
-use dma_commands::Reached;
-use rules::Device;
+use act::Flow;
+use act::Step;
 use rules::START;
+use rules::Scalars;
 ghost use mathlib.Core.Path.{_≡_};
 ghost use mathlib.Core.Bool.{false, not};
+ghost use mathlib.Core.List.{List};
 ghost use Prim.Native.Nat.{ℕ, _+_, _≤_, _<_};
 ghost use lib.ListN.{length, drop};
-ghost use Rattle.rules.specs.View.{view};
 ghost use Rattle.rules.specs.Calls.{badSize, isNone, orNothing};
 ghost use Rattle.rules.specs.Registers.{inTable, tableWrite, pick, dmaArms, dmaWrite};
-ghost use Rattle.act.specs.Does.{Does};
-ghost use Rattle.dma_commands.specs.Reaching.{Reaches};
+ghost use Rattle.act.specs.Worlds.{OnTable};
+ghost use Rattle.dma_commands.specs.Commands.{OnNumbers, Commands};
 ghost use Rattle.dma_read.specs.Access.{Fair};
 ghost use Rattle.dma.specs.Started.{startsIn};
 
@@ -77,114 +77,126 @@ fn starts(table: &[u8; 2048], off: usize, size: usize) -> bool
 }
 
 // "A guest descriptor write is one of its size"; where it starts its channel, it "sets that KICK bit".
-pub fn tcd_write(d: Device, off: u32, size: u32, v: u32, journal: &mut [u8], at: usize) -> Reached
+pub fn tcd_write(
+    s: Step,
+    table: &mut [u8; 2048],
+    off: u32,
+    size: u32,
+    v: u32,
+    journal: &mut [u8],
+) -> Step
     requires { ⌜ (badSize size ≡ false) × (off + size ≤ 2048) ⌝ }
-    ensures { λ r. ⌜ Reaches (tableWrite off size v) (view d) at r (now (journal .entry)) (now (journal .exit)) ⌝ }
+    ensures { λ r. ⌜ OnTable (tableWrite off size v) s r (now (journal .entry)) (now (journal .exit)) (now (table .entry)) (now (table .exit)) ⌝ }
 {
     let place = off as usize;
     let width = size as usize;
-    let mut table = d.table;
-    let begun = dma_commands::begun(d, at);
-    let s = journal::store_table(begun, &mut table, place, width, v as u64, journal);
-    let on = starts(&table, place, width);
-    dma_commands::with_kick(
-        dma_commands::put_back(d, s, table),
-        on,
-        1u64 << (place / 32),
-    )
+    let stored = journal::store_table(s, table, place, width, v as u64, journal);
+    let on = starts(table, place, width);
+    dma_commands::with_kick(stored, on, 1u64 << (place / 32))
 }
 
 // ---- words
 
 // INT and ERR lose the bits that are written: the last four arms.
-fn flags_written(d: Device, off: u32, v: u32) -> Device
-    ensures { λ r. ⌜ Does (orNothing (pick off 4 (drop 7 (dmaArms v)))) (view d) (view r) ⌝ }
+fn flags_written(n: Scalars, off: u32, v: u32) -> Scalars
+    ensures { λ r. ⌜ ((p : List ℕ) → OnNumbers (orNothing (pick off 4 (drop 7 (dmaArms v)))) p n r) ⌝ }
 {
-    let mut e = d;
+    let mut e = n;
     let high = (v as u64) * 0x100000000;
     match off {
         0x20 => {
-            e.int = words::without(d.int, high);
+            e.int = words::without(n.int, high);
             e
         }
         0x24 => {
-            e.int = words::without(d.int, v as u64);
+            e.int = words::without(n.int, v as u64);
             e
         }
         0x28 => {
-            e.err = words::without(d.err, high);
+            e.err = words::without(n.err, high);
             e
         }
         0x2C => {
-            e.err = words::without(d.err, v as u64);
+            e.err = words::without(n.err, v as u64);
             e
         }
-        _ => d,
+        _ => n,
     }
 }
 
 // CR, and half of ERQ or EEI. A word written to ERQ sets no KICK bit.
-fn masks_written(d: Device, off: u32, v: u32) -> Device
+fn masks_written(n: Scalars, off: u32, v: u32) -> Scalars
     requires { ⌜ (off ≡ 0x18 → ⊥) × (off ≡ 0x1C → ⊥) ⌝ }
-    ensures { λ r. ⌜ Does (orNothing (pick off 4 (dmaArms v))) (view d) (view r) ⌝ }
+    ensures { λ r. ⌜ ((p : List ℕ) → OnNumbers (orNothing (pick off 4 (dmaArms v))) p n r) ⌝ }
 {
-    let mut e = d;
+    let mut e = n;
     match off {
         0x00 => {
             e.cr = v;
             e
         }
         0x08 => {
-            e.erq = masks::with_bytes_in(0, 4, v, d.erq);
+            e.erq = masks::with_bytes_in(0, 4, v, n.erq);
             e
         }
         0x0C => {
-            e.erq = masks::with_bytes_in(4, 4, v, d.erq);
+            e.erq = masks::with_bytes_in(4, 4, v, n.erq);
             e
         }
         0x10 => {
-            e.eei = masks::with_bytes_in(0, 4, v, d.eei);
+            e.eei = masks::with_bytes_in(0, 4, v, n.eei);
             e
         }
         0x14 => {
-            e.eei = masks::with_bytes_in(4, 4, v, d.eei);
+            e.eei = masks::with_bytes_in(4, 4, v, n.eei);
             e
         }
-        _ => flags_written(d, off, v),
+        _ => flags_written(n, off, v),
     }
 }
 
-fn word_written(d: Device, off: u32, v: u32, journal: &mut [u8], at: usize) -> Reached
+// Four command bytes, or a register.
+fn word_written(
+    s: Step,
+    table: &mut [u8; 2048],
+    pending: &[u32; 64],
+    off: u32,
+    v: u32,
+    journal: &mut [u8],
+) -> Step
     requires { ⌜ inTable off ≡ false ⌝ }
-    ensures { λ r. ⌜ Reaches (orNothing (dmaWrite off 4 v)) (view d) at r (now (journal .entry)) (now (journal .exit)) ⌝ }
+    ensures { λ r. ⌜ Commands (orNothing (dmaWrite off 4 v)) (now (pending .entry)) s r (now (journal .entry)) (now (journal .exit)) (now (table .entry)) (now (table .exit)) ⌝ }
 {
-    let s = Reached {
-        walk: Walk::On(at),
-        device: d,
-    };
     match off {
-        0x18 => dma_commands::commands(s, 0, v, journal),
-        0x1C => dma_commands::commands(s, 4, v, journal),
-        _ => Reached {
-            walk: Walk::On(at),
-            device: masks_written(d, off, v),
-        },
+        0x18 => dma_commands::commands(s, table, pending, 0, v, journal),
+        0x1C => dma_commands::commands(s, table, pending, 4, v, journal),
+        _ => {
+            let Step::Going(c) = s else {
+                return s;
+            };
+            let n = c.scalars;
+            let scalars = masks_written(n, off, v);
+            Step::Going(Flow { scalars, at: c.at })
+        }
     }
 }
 
 // ---- bytes
 
 // A command byte; the priorities of the channels, 0x100..0x13F, are not kept.
-fn byte_written(d: Device, off: u32, v: u32, journal: &mut [u8], at: usize) -> Reached
+fn byte_written(
+    s: Step,
+    table: &mut [u8; 2048],
+    pending: &[u32; 64],
+    off: u32,
+    v: u32,
+    journal: &mut [u8],
+) -> Step
     requires { ⌜ inTable off ≡ false ⌝ }
-    ensures { λ r. ⌜ Reaches (orNothing (dmaWrite off 1 v)) (view d) at r (now (journal .entry)) (now (journal .exit)) ⌝ }
+    ensures { λ r. ⌜ Commands (orNothing (dmaWrite off 1 v)) (now (pending .entry)) s r (now (journal .entry)) (now (journal .exit)) (now (table .entry)) (now (table .exit)) ⌝ }
 {
-    let s = Reached {
-        walk: Walk::On(at),
-        device: d,
-    };
     if masks::within(0x18, 0x1F, off) {
-        return dma_commands::command(s, off - 0x18, v, journal);
+        return dma_commands::command(s, table, pending, off - 0x18, v, journal);
     }
     s
 }
@@ -193,19 +205,24 @@ fn byte_written(d: Device, off: u32, v: u32, journal: &mut [u8], at: usize) -> R
 
 // "Registers are exactly the arms of [..] `edma_write` [..], and the descriptor table at DMA offsets 0x1000..0x17FF." Where there is no such
 // register, nothing is done.
-pub fn edma_write(d: Device, off: u32, size: u32, v: u32, journal: &mut [u8], at: usize) -> Reached
+pub fn edma_write(
+    s: Step,
+    table: &mut [u8; 2048],
+    pending: &[u32; 64],
+    off: u32,
+    size: u32,
+    v: u32,
+    journal: &mut [u8],
+) -> Step
     requires { ⌜ Fair off size ⌝ }
-    ensures { λ r. ⌜ Reaches (orNothing (dmaWrite off size v)) (view d) at r (now (journal .entry)) (now (journal .exit)) ⌝ }
+    ensures { λ r. ⌜ Commands (orNothing (dmaWrite off size v)) (now (pending .entry)) s r (now (journal .entry)) (now (journal .exit)) (now (table .entry)) (now (table .exit)) ⌝ }
 {
     if masks::within(0x1000, 0x17FF, off) {
-        return tcd_write(d, off - 0x1000, size, v, journal, at);
+        return tcd_write(s, table, off - 0x1000, size, v, journal);
     }
     match size {
-        1 => byte_written(d, off, v, journal, at),
-        4 => word_written(d, off, v, journal, at),
-        _ => Reached {
-            walk: Walk::On(at),
-            device: d,
-        },
+        1 => byte_written(s, table, pending, off, v, journal),
+        4 => word_written(s, table, pending, off, v, journal),
+        _ => s,
     }
 }

@@ -1,4 +1,4 @@
--- What commands do: masks that gain and lose channels, flags of descriptors one after the other, a write that goes on. Assumes nothing.
+-- What commands do: masks that gain and lose channels, flags of descriptors one after the other, commands in a row. Assumes nothing.
 use mathlib.Core.Bool.{Bool, true}
 use mathlib.Core.List.{List}
 use mathlib.Core.Path.{_≡_, refl, sym, _∙_}
@@ -9,25 +9,27 @@ use native.Mathlib.Omega.{arith}
 use lib.Bits.{bitAnd, bitOr, or-lt, and-le-l}
 use lib.ListN.{length, take, drop}
 use Rattle.rules.specs.State.{Device}
-use Rattle.rules.specs.declared.Refusal.{Refusal}
-use Rattle.rules.specs.Act.{Act, Field, table, store, change, when, _>>_, ERQ, KICK}
+use Rattle.rules.specs.Act.{Act, Field, table, store, change, when, _>>_}
+use Rattle.rules.specs.Scalars.{ERQ, KICK, viewScalars}
 use Rattle.rules.specs.Bytes.{number, part}
-use Rattle.rules.specs.Calls.{worldOf}
-use Rattle.rules.specs.Carry.{World, Out, ok, go, Lent}
+use Rattle.rules.specs.Carry.{Out, Lent}
 use Rattle.rules.specs.Fields.{bitsOf, holds, withField}
 use Rattle.rules.specs.Registers.{named, flagOne, flagEach, setRequests, setStarts, command, commands}
 use Rattle.rules.specs.Run.{requesting}
-use Rattle.rules.specs.With.{withErq, withKick}
+use Rattle.rules.specs.With.{withScalars, withTable, withMajors}
 use Rattle.rules.specs.Words.{has, without}
+use Rattle.rules.specs.declared.Scalars.{Scalars}
 use Rattle.rules.proofs.Masks.{without-le}
 use Rattle.act.specs.Does.{Answers, Does}
-use Rattle.act.specs.Worlds.{told, walked, on}
+use Rattle.act.specs.Worlds.{told, on}
+use Rattle.act.specs.declared.Flow.{Flow}
 use Rattle.act.specs.declared.Step.{Step}
-use Rattle.act.specs.declared.Walk.{Walk}
-use Rattle.act.specs.declared.Walk.the-variants.{On, Off}
+use Rattle.act.specs.declared.Step.the-variants.{Going}
 use Rattle.act.proofs.DoesLaws.{answers-bind, answers-then, does-change}
-use Rattle.dma_commands.specs.Reaching.{flagged}
 use Rattle.act.proofs.Laws.{on-then, then, on-nothing, fetched}
+use Rattle.controllers.specs.Waiting.{waitingIn}
+use Rattle.controllers.proofs.InputLaws.{requesting-answers}
+use Rattle.dma_commands.specs.Commands.{flagged, OnNumbers}
 
 -- ---- masks
 
@@ -39,16 +41,17 @@ module _ (d : Device) (f : Field) (wide : bitsOf f ≡ 64) (fits : holds f d < 2
   pub gained : m < 2 ^ 64 → Does (change f (λ k. bitOr k (named v))) d (withField f (bitOr (holds f d) m) d)
   gained h = rw e (does-change d f (λ k. bitOr k (named v)) (rw wide (or-lt 64 (holds f d) (named v) fits (rw e at h))))
 
-pub requests : (d : Device) (v a : ℕ) {m : ℕ} → m ≡ named v → m < 2 ^ 64 → d .erq < 2 ^ 64 → d .kick < 2 ^ 64
-    → Answers requesting (withErq d (bitOr (d .erq) m)) a (withErq d (bitOr (d .erq) m))
-    → Does (setRequests v) d (withKick (withErq d (bitOr (d .erq) m)) (bitOr (d .kick) (bitAnd m a)))
+-- ERQ gains the named channels, and then KICK those of them that request
+pub requests : (d : Device) (n : Scalars) (v : ℕ) {m a : ℕ} → m ≡ named v → m < 2 ^ 64 → n .erq < 2 ^ 64 → n .kick < 2 ^ 64 → a ≡ waitingIn (d .pending) 64 0 (n .standing)
+    → let e = withScalars d (viewScalars n) in Does (setRequests v) e (withField KICK (bitOr (n .kick) (bitAnd m a)) (withField ERQ (bitOr (n .erq) m) e))
 unfolding setRequests bitsOf
-requests d v a {m} e h p q asks =
-    let d1 : Device = withErq d (bitOr (d .erq) m) in
-    let r : Device = withKick d1 (bitOr (d .kick) (bitAnd m a)) in
-    answers-then _ _ d d1 r (tt {0}) (tt {0}) (gained d ERQ refl p v e h)
-    (answers-bind requesting _ d1 d1 r a (tt {0}) asks
-    (rw (← e) (does-change d1 KICK (λ k. bitOr k (bitAnd m a)) (or-lt 64 (d .kick) (bitAnd m a) q (lt-of-le-of-lt (and-le-l m a) h)))))
+requests d n v {m} {a} e h p q asks =
+    let d0 : Device = withScalars d (viewScalars n) in
+    let d1 : Device = withField ERQ (bitOr (n .erq) m) d0 in
+    let r : Device = withField KICK (bitOr (n .kick) (bitAnd m a)) d1 in
+    answers-then _ _ d0 d1 r (tt {0}) (tt {0}) (gained d0 ERQ refl p v e h)
+    (answers-bind requesting _ d1 d1 r a (tt {0}) (requesting-answers d1 asks)
+    (rw (← e) (does-change d1 KICK (λ k. bitOr k (bitAnd m a)) (or-lt 64 (n .kick) (bitAnd m a) q (lt-of-le-of-lt (and-le-l m a) h)))))
 
 -- ---- flags
 
@@ -73,41 +76,19 @@ module _ (base : ℕ) (lent : Lent) where
     unfolding flagEach
     flag-end h = let q : 64 - ch ≡ 0 = omega arith in sym (on-nothing base lent o) ∙ (rw q at so-far)
 
--- ---- a write that goes on
-
-module _ (base : ℕ) (lent : Lent) (d : Device) (w j : List ℕ) {k : Walk} where
-  -- what is off stays so; what is on goes on from the journal's end
-  pub off-stays : {n : Refusal} {at : ℕ} (m : Act (Unit {0})) → k ≡ Off n at → walked k d w j ≡ on base lent m (walked k d w j)
-  unfolding walked on
-  off-stays m e = rw e
-
-  pub on-from : {at : ℕ} (m : Act (Unit {0})) {r : Out (Unit {0})} → k ≡ On at → r ≡ go base lent m (worldOf d w j at) → r ≡ on base lent m (walked k d w j)
-  unfolding walked on
-  on-from m e q = rw e q
-
--- what a device does is done from the journal's end on
-pub does-on : (base : ℕ) (lent : Lent) (d e : Device) (w j : List ℕ) (at : ℕ) (m : Act (Unit {0})) → Does m d e → walked (On at) e w j ≡ go base lent m (worldOf d w j at)
-unfolding walked Answers
-does-on base lent d e w j at m h = sym (h base lent w (take at j) (drop at j))
-
--- KICK gains a mask
-pub kicks : (d : Device) (m : ℕ) → d .kick < 2 ^ 64 → m < 2 ^ 64 → Does (change KICK (λ k. bitOr k m)) d (withKick d (bitOr (d .kick) m))
-unfolding bitsOf
-kicks d m p q = does-change d KICK (λ k. bitOr k m) (or-lt 64 (d .kick) m p q)
-
--- ---- one after another, from the journal's end on
+-- ---- one after another
 
 module _ (base : ℕ) (lent : Lent) where
-  -- with the table taken out of the device, and put back
-  pub through : (m : Act (Unit {0})) (d : Device) (w j : List ℕ) (at : ℕ) {r o p : Out (Unit {0})} → r ≡ o → o ≡ on base lent m p → p ≡ walked (On at) d w j
-      → r ≡ go base lent m (worldOf d w j at)
-  unfolding walked on
-  through m d w j at e f g = e ∙ f ∙ rw g refl
+  -- what is done to the numbers that stand alone is done to the device they are taken from
+  pub numbers-done : (m : Act (Unit {0})) (d : Device) {s : Step} (c : Flow) (n : Scalars) (w j t l : List ℕ) {p : List ℕ} → s ≡ Going c → d .pending ≡ p
+      → OnNumbers m p (c .scalars) n → told (Going (record { scalars = n; at = c .at })) d w j t l ≡ on base lent m (told s d w j t l)
+  unfolding told on Answers
+  numbers-done m d c n w j t l going e h = rw going (sym (h (withMajors (withTable d t) l) e base lent w (take (c .at) j) (drop (c .at) j)))
 
-  pub starts : (v : ℕ) (u : World) {m : ℕ} {r o : Out (Unit {0})} → m ≡ named v → r ≡ on base lent (when true (change KICK (λ k. bitOr k m))) o
-      → o ≡ go base lent (flagEach (flagged true) m 64 0) u → r ≡ go base lent (setStarts v) u
-  unfolding setStarts flagged when on
-  starts v u e f g = then base lent (flagEach (flagged true) (named v) 64 0) (change KICK (λ k. bitOr k (named v))) (ok tt u) (rw e at f) (rw e at g)
+  pub starts : (v : ℕ) (o : Out (Unit {0})) {m : ℕ} {r p : Out (Unit {0})} → m ≡ named v → r ≡ on base lent (when true (change KICK (λ k. bitOr k m))) p
+      → p ≡ on base lent (flagEach (flagged true) m 64 0) o → r ≡ on base lent (setStarts v) o
+  unfolding setStarts flagged when
+  starts v o e f g = then base lent (flagEach (flagged true) (named v) 64 0) (change KICK (λ k. bitOr k (named v))) o (rw e at f) (rw e at g)
 
   pub in-row : (k v : ℕ) (o : Out (Unit {0})) {p q r x : Out (Unit {0})} → p ≡ on base lent (command k (v / 2 ^ 24 % 256)) o → q ≡ on base lent (command (k + 1) (v / 2 ^ 16 % 256)) p
       → r ≡ on base lent (command (k + 2) (v / 2 ^ 8 % 256)) q → x ≡ on base lent (command (k + 3) (v % 256)) r → x ≡ on base lent (commands k v) o

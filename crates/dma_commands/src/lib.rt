@@ -1,70 +1,80 @@
-// The command bytes of the DMA registers, 0x18 to 0x1F: what each does to the device and to the journal.
+// The command bytes of the DMA registers, 0x18 to 0x1F: what each does to the device's numbers and table, and to the journal.
 use act::Flow;
 use act::Step;
-use act::Walk;
 use rules::DONE;
-use rules::Device;
 use rules::START;
-ghost use mathlib.Core.List.{List};
+use rules::Scalars;
 ghost use mathlib.Core.Path.{_≡_};
-ghost use Prim.Native.Nat.{ℕ, _<_, _≤_};
+ghost use Prim.Native.Nat.{_<_, _≤_};
 ghost use lib.Bits.{bitOr};
-ghost use Rattle.rules.specs.View.{view};
-ghost use Rattle.rules.specs.Act.{change, when, KICK};
+ghost use Rattle.rules.specs.Act.{change, when};
+ghost use Rattle.rules.specs.Scalars.{KICK};
 ghost use Rattle.rules.specs.Registers.{flagOne, flagEach, setRequests, setStarts, clearDones, command, commands};
-ghost use Rattle.act.specs.Does.{Does};
-ghost use Rattle.act.specs.Worlds.{OnTable};
-ghost use Rattle.dma_commands.specs.Reaching.{flagged, Begins, Keeps, Reaches, OnReached};
-
-// How far a write came, and the device then: on, with the journal's end, or off for want of room, and then nothing more happens.
-pub struct Reached {
-    pub walk: Walk,
-    pub device: Device,
-}
+ghost use Rattle.act.specs.Worlds.{OnTable, OnScalars};
+ghost use Rattle.dma_commands.specs.Commands.{flagged, OnNumbers, Commands};
 
 // ---- commands that change scalar registers
 
 // SERQ: the named channels get their ERQ bit, and KICK gains those of them that request.
-fn set_requests(d: Device, v: u32) -> Device
-    ensures { λ r. ⌜ Does (setRequests v) (view d) (view r) ⌝ }
+fn set_requests(n: Scalars, pending: &[u32; 64], v: u32) -> Scalars
+    ensures { λ r. ⌜ OnNumbers (setRequests v) (now (pending .entry)) n r ⌝ }
 {
     let m = masks::named(v);
-    let mut e = d;
-    e.erq = d.erq | m;
-    e.kick = d.kick | (m & controllers::requesting(e));
+    let mut e = n;
+    e.erq = n.erq | m;
+    e.kick = n.kick | (m & controllers::waiting(n.standing, pending));
     e
 }
 
 // SERQ, CERQ, SEEI, CEEI, CINT, CERR: a mask gains or loses the named channels.
-fn scalar_command(d: Device, k: u32, v: u32) -> Device
+fn scalar_command(n: Scalars, pending: &[u32; 64], k: u32, v: u32) -> Scalars
     requires { ⌜ k < 6 ⌝ }
-    ensures { λ r. ⌜ Does (command k v) (view d) (view r) ⌝ }
+    ensures { λ r. ⌜ OnNumbers (command k v) (now (pending .entry)) n r ⌝ }
 {
     let m = masks::named(v);
-    let mut e = d;
+    let mut e = n;
     match k {
-        0 => set_requests(d, v),
+        0 => set_requests(n, pending, v),
         1 => {
-            e.erq = words::without(d.erq, m);
+            e.erq = words::without(n.erq, m);
             e
         }
         2 => {
-            e.eei = d.eei | m;
+            e.eei = n.eei | m;
             e
         }
         3 => {
-            e.eei = words::without(d.eei, m);
+            e.eei = words::without(n.eei, m);
             e
         }
         4 => {
-            e.int = words::without(d.int, m);
+            e.int = words::without(n.int, m);
             e
         }
         _ => {
-            e.err = words::without(d.err, m);
+            e.err = words::without(n.err, m);
             e
         }
     }
+}
+
+// KICK gains the channels in `m`, where `on`.
+pub fn with_kick(s: Step, on: bool, m: u64) -> Step
+    ensures { λ r. ⌜ OnScalars (when on (change KICK (λ k. bitOr k m))) s r ⌝ }
+{
+    let Step::Going(c) = s else {
+        return s;
+    };
+    if !on {
+        return s;
+    }
+    let mut n = c.scalars;
+    let kick = n.kick | m;
+    n.kick = kick;
+    Step::Going(Flow {
+        scalars: n,
+        at: c.at,
+    })
 }
 
 // ---- commands that change flags of descriptors
@@ -112,123 +122,63 @@ fn flag_each(s: Step, table: &mut [u8; 2048], start: bool, m: u64, journal: &mut
     t
 }
 
-// ---- the table, held apart while it is stored into
-
-// An act's stores begin at the journal's end `at`.
-pub fn begun(d: Device, at: usize) -> Step
-    ensures { λ r. ⌜ Begins (view d) at r ⌝ }
-{
-    Step::Going(Flow {
-        cr: d.cr,
-        erq: d.erq,
-        int: d.int,
-        kick: d.kick,
-        at,
-    })
-}
-
-// The device with the table as the stores left it.
-pub fn put_back(d: Device, s: Step, table: [u8; 2048]) -> Reached
-    ensures { λ r. ⌜ Keeps (view d) s table r ⌝ }
-{
-    let mut e = d;
-    e.table = table;
-    match s {
-        Step::Going(c) => {
-            e.cr = c.cr;
-            e.erq = c.erq;
-            e.int = c.int;
-            e.kick = c.kick;
-            Reached {
-                walk: Walk::On(c.at),
-                device: e,
-            }
-        }
-        Step::Refused(n, c) => {
-            e.cr = c.cr;
-            e.erq = c.erq;
-            e.int = c.int;
-            e.kick = c.kick;
-            Reached {
-                walk: Walk::Off(n, c.at),
-                device: e,
-            }
-        }
-    }
-}
-
-// The flags of the channels in `m`, in the device.
-fn flag_channels(d: Device, at: usize, start: bool, m: u64, journal: &mut [u8]) -> Reached
-    ensures { λ r. ⌜ Reaches (flagEach (flagged start) m 64 0) (view d) at r (now (journal .entry)) (now (journal .exit)) ⌝ }
-{
-    let mut table = d.table;
-    let s = flag_each(begun(d, at), &mut table, start, m, journal);
-    put_back(d, s, table)
-}
-
-// KICK gains the channels in `m`, where `on`.
-pub fn with_kick(s: Reached, on: bool, m: u64) -> Reached
-    ensures { λ r. ⌜ ((j : List ℕ) → OnReached (when on (change KICK (λ k. bitOr k m))) s r j j) ⌝ }
-{
-    let w = s.walk;
-    let Walk::On(at) = w else {
-        return s;
-    };
-    if !on {
-        return s;
-    }
-    let mut e = s.device;
-    e.kick = e.kick | m;
-    Reached {
-        walk: Walk::On(at),
-        device: e,
-    }
-}
-
 // SSRT: the named channels get START, one record each, and then their KICK bits.
-fn set_starts(d: Device, at: usize, v: u32, journal: &mut [u8]) -> Reached
-    ensures { λ r. ⌜ Reaches (setStarts v) (view d) at r (now (journal .entry)) (now (journal .exit)) ⌝ }
+fn set_starts(s: Step, table: &mut [u8; 2048], v: u32, journal: &mut [u8]) -> Step
+    ensures { λ r. ⌜ OnTable (setStarts v) s r (now (journal .entry)) (now (journal .exit)) (now (table .entry)) (now (table .exit)) ⌝ }
 {
     let m = masks::named(v);
-    with_kick(flag_channels(d, at, true, m, journal), true, m)
+    with_kick(flag_each(s, table, true, m, journal), true, m)
 }
 
 // CDNE: the named channels lose DONE.
-fn clear_dones(d: Device, at: usize, v: u32, journal: &mut [u8]) -> Reached
-    ensures { λ r. ⌜ Reaches (clearDones v) (view d) at r (now (journal .entry)) (now (journal .exit)) ⌝ }
+fn clear_dones(s: Step, table: &mut [u8; 2048], v: u32, journal: &mut [u8]) -> Step
+    ensures { λ r. ⌜ OnTable (clearDones v) s r (now (journal .entry)) (now (journal .exit)) (now (table .entry)) (now (table .exit)) ⌝ }
 {
-    flag_channels(d, at, false, masks::named(v), journal)
+    flag_each(s, table, false, masks::named(v), journal)
 }
 
 // ---- any command
 
 // The command byte at 0x18 + `k`, after what came before.
-pub fn command(s: Reached, k: u32, v: u32, journal: &mut [u8]) -> Reached
+pub fn command(
+    s: Step,
+    table: &mut [u8; 2048],
+    pending: &[u32; 64],
+    k: u32,
+    v: u32,
+    journal: &mut [u8],
+) -> Step
     requires { ⌜ k < 8 ⌝ }
-    ensures { λ r. ⌜ OnReached (command k v) s r (now (journal .entry)) (now (journal .exit)) ⌝ }
+    ensures { λ r. ⌜ Commands (command k v) (now (pending .entry)) s r (now (journal .entry)) (now (journal .exit)) (now (table .entry)) (now (table .exit)) ⌝ }
 {
-    let w = s.walk;
-    let d = s.device;
-    let Walk::On(at) = w else {
-        return s;
-    };
     match k {
-        6 => set_starts(d, at, v, journal),
-        7 => clear_dones(d, at, v, journal),
-        _ => Reached {
-            walk: Walk::On(at),
-            device: scalar_command(d, k, v),
-        },
+        6 => set_starts(s, table, v, journal),
+        7 => clear_dones(s, table, v, journal),
+        _ => {
+            let Step::Going(c) = s else {
+                return s;
+            };
+            let n = c.scalars;
+            let scalars = scalar_command(n, pending, k, v);
+            Step::Going(Flow { scalars, at: c.at })
+        }
     }
 }
 
 // Four of them as one word, the top byte first.
-pub fn commands(s: Reached, k: u32, v: u32, journal: &mut [u8]) -> Reached
+pub fn commands(
+    s: Step,
+    table: &mut [u8; 2048],
+    pending: &[u32; 64],
+    k: u32,
+    v: u32,
+    journal: &mut [u8],
+) -> Step
     requires { ⌜ k ≤ 4 ⌝ }
-    ensures { λ r. ⌜ OnReached (commands k v) s r (now (journal .entry)) (now (journal .exit)) ⌝ }
+    ensures { λ r. ⌜ Commands (commands k v) (now (pending .entry)) s r (now (journal .entry)) (now (journal .exit)) (now (table .entry)) (now (table .exit)) ⌝ }
 {
-    let a = command(s, k, v / 0x1000000 % 256, journal);
-    let b = command(a, k + 1, v / 0x10000 % 256, journal);
-    let c = command(b, k + 2, v / 0x100 % 256, journal);
-    command(c, k + 3, v % 256, journal)
+    let a = command(s, table, pending, k, v / 0x1000000 % 256, journal);
+    let b = command(a, table, pending, k + 1, v / 0x10000 % 256, journal);
+    let c = command(b, table, pending, k + 2, v / 0x100 % 256, journal);
+    command(c, table, pending, k + 3, v % 256, journal)
 }

@@ -8,30 +8,26 @@ use native.Mathlib.Omega.{arith}
 use borrow.Author.Tests.{leb-true, leb-false, ltb-false}
 use lib.Bits.{bitAnd, bitOr, or-lt, and-le-l}
 use lib.Dec.{eqb, leb, ltb, lit<}
-use lib.ListN.{length, take, drop, replicate, drop-of-length-le}
+use lib.ListN.{length, set, take, drop, replicate, drop-of-length-le}
 use lib.Seq.{take-all, drop-length}
-use Rattle.rules.specs.Act.{KICK, DEFERRED, ask, put, change}
+use Rattle.rules.specs.Act.{ask, put, change}
+use Rattle.rules.specs.Scalars.{ERQ, KICK, DEFERRED, viewScalars}
 use Rattle.rules.specs.Calls.{badWindow, badJournal, badTime, check, wrong, run, worldOf}
 use Rattle.rules.specs.Carry.{World, withDevice, go, Lent}
-use Rattle.rules.specs.Fields.{bitsOf}
+use Rattle.rules.specs.Fields.{bitsOf, holds, withField}
 use Rattle.rules.specs.Run.{requesting, release, runAll, serviceAll}
-use Rattle.rules.specs.With.{withBusy, withDeferred, withKick}
+use Rattle.rules.specs.With.{withBusy}
 use Rattle.rules.specs.State.{Device}
-use Rattle.rules.specs.declared.Verdict.{Verdict}
+use Rattle.rules.specs.declared.Scalars.{Scalars}
 use Rattle.rules.proofs.BoolLaws.{neither}
 use Rattle.rules.proofs.CallLaws.{passed, window-fits}
 use Rattle.rules.proofs.Steps.{bind-ok, then-ok, ask-does, put-does, change-does}
 use Rattle.act.specs.Does.{beside, Answers}
-use Rattle.act.specs.Worlds.{over}
-use Rattle.closing.specs.declared.Small.{Small}
+use Rattle.act.specs.declared.Flow.{Flow}
 use Rattle.controllers.specs.Waiting.{waitingIn}
 use Rattle.controllers.proofs.InputLaws.{requesting-answers}
 use Rattle.turns.specs.Frees.{Frees}
-use Rattle.turns.specs.Turns.{around, turning, turned, Turns}
-use Rattle.turns.specs.declared.Course.{Course}
-use Rattle.turns.specs.declared.Turned.{Turned}
-use Rattle.turns.specs.declared.Turned.the-variants.{On, Off}
-use Rattle.engine.specs.Runs.{courseOf, verdictOf, came, whole, courseFrom, Offers}
+use Rattle.engine.specs.Runs.{whole, Offers}
 
 -- ---- refusals 5, 6 and 7
 
@@ -76,11 +72,6 @@ right base window journal used time pace e =
 
 -- ---- the turns of a run
 
-pub came-so : (s : Turned) (d : Device) (w j tb m p b : List ℕ) → came (verdictOf s) (turning d (courseOf s) w j tb m p b) ≡ turned s d w j tb m p b
-unfolding came turned
-came-so (On t) d w j tb m p b = refl
-came-so (Off n t) d w j tb m p b = refl
-
 -- a journal's end past the journal stands for the end itself
 pub ends-within : (j : List ℕ) (at : ℕ) → (take (min at (length j)) j ≡ take at j) × (drop (min at (length j)) j ≡ drop at j)
 ends-within j at = by (leb at (length j)) refl
@@ -98,57 +89,42 @@ world-within d w j at n e = rw (e, ends-within j at .0, ends-within j at .1)
 pub zeros : (s : List ℕ) (n : ℕ) {s′ : List ℕ} → s′ ≡ take 0 s ++ replicate (length s - 0) 0 ++ drop (length s) s → length s ≡ n → s′ ≡ replicate n 0
 zeros s n h e = let q : length s - 0 ≡ n = omega arith in h ∙ rw (q, drop-length s, append-nil)
 
--- all that a run of turns came to
-module _ (time pace base : ℕ) (lent : Lent) (standing : ℕ) (t : Course) (s : Turned) (w w′ j j′ tb tb′ m m′ p p′ b b′ : List ℕ)
-    (did : Turns (runAll time pace) base lent standing t s w w′ j j′ tb tb′ m m′ p p′ b b′)
-  where
-    pub run-did : (k : Course) → k ≡ courseOf s → (at : ℕ) → at ≡ min (k .flow .at) (length j′) → (v : Verdict) → v ≡ verdictOf s → (d : Device) → d .standing ≡ standing
-        → came v (worldOf (over (around d k p′ b′) (k .flow) tb′ m′) w′ j′ at) ≡ go base lent (runAll time pace) (turning d t w j tb m p b)
-    run-did k k-is at at-is v v-is d h = rw (v-is, world-within _ w′ j′ (k .flow .at) at at-is, k-is) (came-so s d w′ j′ tb′ m′ p′ b′ ∙ did d h)
-
 -- ---- a service's
 
--- what its turns begin with
-abbrev pub again-from : Small → ℕ → ℕ → Course
-again-from s used kick = record {
-  flow = record { cr = s .cr; erq = s .erq; int = s .int; kick = kick; at = used };
-  deferred = 0;
-  deadline = s .deadline;
-}
-
-module _ (time : ℕ) (d : Device) (back asking : ℕ) (b : List ℕ) (frees : Frees time (d .erq) back (d .busy) b) (asks : Answers requesting (withBusy d b) asking (withBusy d b))
-    (hb : back < 2 ^ 64) (hk : d .kick < 2 ^ 64) (hd : d .deferred < 2 ^ 64)
+module _ (time : ℕ) (d : Device) (back asking : ℕ) (b : List ℕ) (frees : Frees time (holds ERQ d) back (d .busy) b) (asks : Answers requesting (withBusy d b) asking (withBusy d b))
+    (hb : back < 2 ^ 64) (hk : holds KICK d < 2 ^ 64) (hd : holds DEFERRED d < 2 ^ 64) (apart : holds KICK (withField DEFERRED 0 d) ≡ holds KICK d)
   where
     abbrev joined : ℕ
-    joined = bitOr (d .kick) (bitAnd (bitOr back (d .deferred)) (bitOr asking (d .kick)))
+    joined = bitOr (holds KICK d) (bitAnd (bitOr back (holds DEFERRED d)) (bitOr asking (holds KICK d)))
 
     fits : joined < 2 ^ 64
-    fits = or-lt 64 (d .kick) _ hk (lt-of-le-of-lt (and-le-l (bitOr back (d .deferred)) (bitOr asking (d .kick))) (or-lt 64 back (d .deferred) hb hd))
+    fits = or-lt 64 (holds KICK d) _ hk (lt-of-le-of-lt (and-le-l (bitOr back (holds DEFERRED d)) (bitOr asking (holds KICK d))) (or-lt 64 back (holds DEFERRED d) hb hd))
 
     pub offered-again : (pace base : ℕ) (lent : Lent) (mem used free : List ℕ)
-        → go base lent (serviceAll time pace) (beside mem used free d) ≡ go base lent (runAll time pace) (beside mem used free (withKick (withDeferred (withBusy d b) 0) joined))
+        → go base lent (serviceAll time pace) (beside mem used free d) ≡ go base lent (runAll time pace) (beside mem used free (withField KICK joined (withField DEFERRED 0 (withBusy d b))))
     unfolding serviceAll Answers withDevice bitsOf
     offered-again pace base lent mem used free =
         let u : World = beside mem used free (withBusy d b) in
-        let v : World = beside mem used free (withDeferred (withBusy d b) 0) in
+        let v : World = beside mem used free (withField DEFERRED 0 (withBusy d b)) in
+        let g : ℕ → ℕ = λ k. bitOr k (bitAnd (bitOr back (holds DEFERRED d)) (bitOr asking k)) in
         bind-ok base lent (release time 64 0 0) _ (beside mem used free d) (frees base lent mem used free d refl)
         ∙ bind-ok base lent (ask DEFERRED) _ u (ask-does base lent u DEFERRED)
         ∙ bind-ok base lent requesting _ u (asks base lent mem used free)
         ∙ then-ok base lent (put DEFERRED 0) _ u (put-does base lent u DEFERRED 0 (lit< tt))
-        ∙ then-ok base lent (change KICK (λ k. bitOr k (bitAnd (bitOr back (d .deferred)) (bitOr asking k)))) _ v
-        (change-does base lent v KICK (λ k. bitOr k (bitAnd (bitOr back (d .deferred)) (bitOr asking k))) fits)
+        ∙ then-ok base lent (change KICK g) _ v (rw (ap g apart) at (change-does base lent v KICK g (rw (ap g apart) fits)))
 
 -- where the turns begin
 
-pub offers-run : (again : Bool) → again ≡ false → (time : ℕ) (s : Small) (used : ℕ) (p b : List ℕ) {r : Course} → r ≡ courseFrom s used → Offers again time s r p b b used
-offers-run again h time s used p b e pace base lent ignore tb m taken w j = rw (h, e) refl
+pub offers-run : (again : Bool) → again ≡ false → (time : ℕ) (s : Scalars) (used : ℕ) (b p : List ℕ) {r : Flow} → r ≡ record { scalars = s; at = used } → Offers again time s r b b p used
+offers-run again h time s used b p e pace base lent k ignore tb m taken w j = rw (h, e) refl
 
-pub offers-service : (again : Bool) → again ≡ true → (time : ℕ) (s : Small) (used : ℕ) (p b b′ : List ℕ) (r : Course) → Offers true time s r p b b′ used → Offers again time s r p b b′ used
-offers-service again h time s used p b b′ r o pace base lent ignore tb m taken w j = rw h (o pace base lent ignore tb m taken w j)
+pub offers-service : (again : Bool) → again ≡ true → (time : ℕ) (s : Scalars) (used : ℕ) (b b′ p : List ℕ) (r : Flow) → Offers true time s r b b′ p used → Offers again time s r b b′ p used
+offers-service again h time s used b b′ p r o pace base lent k ignore tb m taken w j = rw h (o pace base lent k ignore tb m taken w j)
 
-pub offers-again : (time : ℕ) (s : Small) (used back asking : ℕ) (p b b′ : List ℕ) → Frees time (s .erq) back b b′ → asking ≡ waitingIn p 64 0 (s .standing)
+pub offers-again : (time : ℕ) (s : Scalars) (used back asking : ℕ) (b b′ p : List ℕ) → Frees time (s .erq) back b b′ → asking ≡ waitingIn p 64 0 (s .standing)
     → back < 2 ^ 64 → s .kick < 2 ^ 64 → s .deferred < 2 ^ 64
-    → Offers true time s (again-from s used (bitOr (s .kick) (bitAnd (bitOr back (s .deferred)) (bitOr asking (s .kick))))) p b b′ used
-offers-again time s used back asking p b b′ frees asks hb hk hd pace base lent ignore tb m taken w j =
-    let d : Device = whole s ignore tb b m p taken in
-    offered-again time d back asking b′ frees (requesting-answers (withBusy d b′) asks) hb hk hd pace base lent w (take used j) (drop used j)
+    → (n : Scalars) → viewScalars n ≡ set (set (viewScalars s) 6 0) 5 (bitOr (s .kick) (bitAnd (bitOr back (s .deferred)) (bitOr asking (s .kick))))
+    → Offers true time s (record { scalars = n; at = used }) b b′ p used
+offers-again time s used back asking b b′ p frees asks hb hk hd n v pace base lent k ignore tb m taken w j =
+    let d : Device = whole s k ignore tb b m p taken in
+    rw v (offered-again time d back asking b′ frees (requesting-answers (withBusy d b′) asks) hb hk hd refl pace base lent w (take used j) (drop used j))

@@ -19,8 +19,6 @@ use Rattle.rules.specs.declared.Verdict.{Verdict}
 use Rattle.rules.specs.declared.Verdict.the-variants as Verdict
 use Rattle.rules.proofs.CallLaws.{act-wrong}
 use Rattle.rules.proofs.Typed.{Typed, sound, table-size}
-use Rattle.closing.specs.Closes.{smallOf}
-use Rattle.closing.specs.declared.Small.{Small}
 use Rattle.engine.specs.Runs.{whole, Fine, stepsOf, standing, asked}
 
 -- a refusal's number is not 0
@@ -65,13 +63,16 @@ told-moved v e x y {w} {s} {j} {u} h = ap (λ (d : Device). told (verdictNumber 
     moved = rw e refl
 
 -- a device, and its parts
-pub fine-parts : (d : HeldDevice) → Typed d → (k : Small) → k ≡ smallOf d → Fine (whole k (d .«ignore_masks») (d .table) (d .busy) (d .majors) (d .pending) (d .taken))
-fine-parts d g k e = rw e (sound d g, omega (arith, table-size d g))
+abbrev pub partsAs : HeldDevice → Device
+partsAs d = whole (d .scalars) (d .controllers) (d .«ignore_masks») (d .table) (d .busy) (d .majors) (d .pending) (d .taken)
 
-pub whole-told : (call : Asked) (base : ℕ) (d : HeldDevice) (w s j : List ℕ) (used : ℕ) (k : Small) → k ≡ smallOf d → (n u : ℕ) (x e : HeldDevice) (w′ s′ j′ : List ℕ) → e ≡ x
-    → told n Heard.Nothing (view x) w′ s′ j′ u ≡ after call base (whole k (d .«ignore_masks») (d .table) (d .busy) (d .majors) (d .pending) (d .taken)) w s j used
+pub fine-parts : (d : HeldDevice) → Typed d → Fine (partsAs d)
+fine-parts d g = (sound d g, omega (arith, table-size d g))
+
+pub whole-told : (call : Asked) (base : ℕ) (d : HeldDevice) (w s j : List ℕ) (used : ℕ) (n u : ℕ) (x e : HeldDevice) (w′ s′ j′ : List ℕ) → e ≡ x
+    → told n Heard.Nothing (view x) w′ s′ j′ u ≡ after call base (partsAs d) w s j used
     → told n Heard.Nothing (view e) w′ s′ j′ u ≡ after call base (view d) w s j used
-whole-told call base d w s j used k p n u x e w′ s′ j′ q h = rw q (rw p at h)
+whole-told call base d w s j used n u x e w′ s′ j′ q h = rw q h
 
 module _ (base : ℕ) (d : Device) (w s j : List ℕ) (used : ℕ) where
   told-wrong : (c : Asked) (x : ℕ) → 0 < x → wrong base (length w) (length j) used c ≡ x → told x Heard.Nothing d w s j used ≡ after c base d w s j used

@@ -3,7 +3,8 @@ use mathlib.Core.Bool.{Bool}
 use mathlib.Core.List.{List, [], _∷_, map}
 use mathlib.Core.Path.{_≡_, refl, sym, ap, _∙_, subst}
 use Prim.Native.Nat.{ℕ, _+_, _^_, _≤_, min}
-use lib.ListN.{length, take, drop, replicate, length-append, length-take, take-append-drop}
+use native.Mathlib.Omega.{arith}
+use lib.ListN.{length, set, take, drop, replicate, length-append, length-take, take-append-drop}
 use lib.Seq.{length-take-le}
 use Rattle.rules.specs.Act.{Act, window, table}
 use Rattle.rules.specs.Bytes.{Bytes}
@@ -11,12 +12,15 @@ use Rattle.rules.specs.Calls.{Told, told, refusalNumber, verdictNumber, levelle
 use Rattle.rules.specs.Carry.{Machine, World, Rec, stoodAt, stoodIn, ok, no, there, go, unmade, cleared, leave, perform, Lent, lending}
 use Rattle.rules.specs.Fields.{fieldsOf}
 use Rattle.rules.specs.Lines.{relevel}
+use Rattle.rules.specs.Scalars.{viewScalars}
 use Rattle.rules.specs.TakeBack.{soundStore}
 use Rattle.rules.specs.State.{Device}
 use Rattle.rules.specs.View.{viewController}
+use Rattle.rules.specs.declared.Controller.{Controller as HeldController}
 use Rattle.rules.specs.declared.Heard.{Heard}
 use Rattle.rules.specs.declared.Heard.the-variants as Heard
 use Rattle.rules.specs.declared.Refusal.{Refusal}
+use Rattle.rules.specs.declared.Scalars.{Scalars}
 use Rattle.rules.specs.declared.Verdict.{Verdict}
 use Rattle.rules.specs.declared.Verdict.the-variants as Verdict
 use Rattle.rules.proofs.Back.{AllSound}
@@ -25,22 +29,22 @@ use Rattle.rules.proofs.Steps.{then-ok, then-no, go-done, leave-refused}
 use Rattle.rules.proofs.Took.{Underway, go-underway}
 use Rattle.rules.proofs.Undo.{asIn}
 use Rattle.act.specs.Does.{Answers, Does}
-use Rattle.act.specs.Worlds.{over}
+use Rattle.act.specs.Worlds.{over, told as step-told}
+use Rattle.act.specs.declared.Flow.{Flow}
+use Rattle.act.specs.declared.Step.{Step}
 use Rattle.journal.specs.Undoing.{RolledBack}
 use Rattle.journal.proofs.Back.{MemorySound, rolls, rolled-window, rolled-journal}
 use Rattle.closing.specs.Closes.{SameLevels, closed, Closes, fieldsIn}
 use Rattle.closing.specs.declared.Noted.{Noted}
 use Rattle.closing.specs.declared.Noted.the-variants.{At, Full}
-use Rattle.closing.specs.declared.Small.{Small}
 use Rattle.closing.proofs.Group.{closes}
 use Rattle.closing.proofs.Parts.{fields-in}
 use Rattle.controllers.specs.Levels.{controllersIn, highestIn}
 use Rattle.controllers.specs.declared.Levelled.{Levelled}
 use Rattle.controllers.proofs.DeviceLaws.{relevel-does}
 use Rattle.turns.specs.Turns.{around}
-use Rattle.turns.specs.declared.Course.{Course}
-use Rattle.engine.specs.Runs.{came, whole, withCourse, RunsAll, SameSteps, Fine, standing, held}
-use Rattle.engine.specs.declared.Ran.{Ran}
+use Rattle.engine.specs.Runs.{came, stepOf, whole, RunsAll, SameSteps, Fine, standing, held}
+use Rattle.engine.proofs.Beginning.{world-within}
 use Rattle.engine.proofs.Sparing.{highest-below, same-levels}
 
 -- ---- records that are sound where an act began are sound in a window as long
@@ -139,18 +143,24 @@ module _ (base : ℕ) (lent : Lent) (before : Device) (w j : List ℕ) (used : �
         → told (verdictNumber v) Heard.Nothing before w″ z j″ used ≡ toldAfter z₀ used (perform base lent (levelled m) u)
     ends-refused n h w″ j″ back z z₀ q = rw (q, ap verdictNumber h) (told-back j′ refl refl w″ j″ back z₀ (refusalNumber n) (unmade-so n h))
 
--- ---- an act on a device in parts: `bef` and tb, b, m, p at entry; its turns began with m₁, p₁, b₁ and came to tb′, m′, p′, b′
+-- ---- an act on a device in parts: `bef`, kb and tb, b, m, p at entry; its turns began with b₁, m₁, p₁ and came to c and tb′, b′, m′, p′
 
-module _ (time pace base : ℕ) (bef : Small) (ignore : Bool) (t : Course) (w s j tb b b₁ m m₁ p p₁ : List ℕ) (used : ℕ) (r : Ran) (w′ s′ j′ tb′ m′ p′ b′ : List ℕ)
-    (ran : RunsAll time pace base (bef .standing) t r w w′ s s′ j j′ tb tb′ m₁ m′ p₁ p′ b₁ b′)
+told-came : (v : Verdict) (c : Flow) (d : Device) (w j tb m : List ℕ) → step-told (stepOf v c) d w j tb m ≡ came v (worldOf (over d c tb m) w j (c .at))
+unfolding step-told came
+told-came Verdict.Accepted c d w j tb m = refl
+told-came (Verdict.Refused n) c d w j tb m = refl
+
+module _ (time pace base : ℕ) (bef : Scalars) (kb : List HeldController) (ignore : Bool) (t : Flow) (w s j tb b b₁ m m₁ p p₁ : List ℕ) (used : ℕ) (r : Step) (w′ s′ j′ tb′ b′ m′ p′ : List ℕ)
+    (ran : RunsAll time pace base t r w w′ s s′ j j′ tb tb′ b₁ b′ m₁ m′ p₁ p′)
     (bytes : Bytes w) (below : base + length w ≤ 2 ^ 32) (fits : used ≤ length j)
-    (taken : List ℕ) (fine : Fine (whole bef ignore tb b m p taken)) (act : Act (Unit {0})) (same : SameSteps act time pace base (whole bef ignore tb b m p taken) t w s j m₁ p₁ b₁ used)
+    (taken : List ℕ) (fine : Fine (whole bef kb ignore tb b m p taken)) (act : Act (Unit {0})) (same : SameSteps act time pace base (whole bef kb ignore tb b m p taken) t w s j b₁ m₁ p₁ used)
+    (v : Verdict) (c : Flow) (so : r ≡ stepOf v c) (at : ℕ) (at-is : at ≡ min (c .at) (length j′))
   where
     abbrev d : Device
-    d = whole bef ignore tb b m p taken
+    d = whole bef kb ignore tb b m p taken
 
     abbrev e : Device
-    e = over (around d (r .course) p′ b′) (r .course .flow) tb′ m′
+    e = over (around d b′ p′) c tb′ m′
 
     abbrev ends : Told
     ends = toldAfter (replicate (length s) 0) used (perform base (lending (length s)) (levelled act) (worldOf d w j used))
@@ -158,44 +168,44 @@ module _ (time pace base : ℕ) (bef : Small) (ignore : Bool) (t : Course) (w s 
     good : Good base (record { mem = w; dev = d })
     good = record { sound-dev = fine .0; mem-bytes = bytes; mem-below = below; table-below = fine .1 }
 
-    steps : came (r .verdict) (worldOf e w′ j′ (r .at)) ≡ go base (lending (length s)) act (worldOf d w j used)
-    steps = ran .does d refl ∙ sym same
+    steps : came v (worldOf e w′ j′ at) ≡ go base (lending (length s)) act (worldOf d w j used)
+    steps = ap (came v) (world-within e w′ j′ (c .at) at at-is) ∙ sym (told-came v c (around d b′ p′) w′ j′ tb′ m′) ∙ (rw so at (ran .does d)) ∙ sym same
 
-    pub rolls-first : (used ≤ r .at) × (used ≤ length j′)
-    rolls-first = can-roll base (lending (length s)) d w j used good fits act (r .verdict) e w′ j′ (r .at) steps j′ refl refl
+    pub rolls-first : (used ≤ at) × (used ≤ length j′)
+    rolls-first = can-roll base (lending (length s)) d w j used good fits act v e w′ j′ at steps j′ refl refl
 
-    pub told-refused : (n : Refusal) → r .verdict ≡ Verdict.Refused n → (w″ j″ : List ℕ) → RolledBack base used (r .at) w′ j′ w″ j″ → (x : Device)
-        → told (verdictNumber (r .verdict)) Heard.Nothing (standing (r .verdict) d x) w″ s′ j″ used ≡ ends
+    pub told-refused : (n : Refusal) → v ≡ Verdict.Refused n → (w″ j″ : List ℕ) → RolledBack base used at w′ j′ w″ j″ → (x : Device)
+        → told (verdictNumber v) Heard.Nothing (standing v d x) w″ s′ j″ used ≡ ends
     unfolding standing
     told-refused n h w″ j″ back x =
-        rw (h, standing) (rw h at (ends-refused base (lending (length s)) d w j used good fits act (r .verdict) e w′ j′ (r .at) steps n h w″ j″ back s′ _ (ran .cleared-staging)))
+        rw (h, standing) (rw h at (ends-refused base (lending (length s)) d w j used good fits act v e w′ j′ at steps n h w″ j″ back s′ _ (ran .cleared-staging)))
 
-    module _ (l : Levelled) (lines : map viewController (l .controllers) ≡ controllersIn (r .course .flow .int) (map viewController (bef .controllers)))
-        (level : l .level ≡ highestIn ignore (r .course .flow .int) (map viewController (bef .controllers)))
-        (after : Small) (put : after ≡ withCourse bef (r .course) (l .controllers) (l .level))
+    module _ (l : Levelled) (lines : map viewController (l .controllers) ≡ controllersIn (c .scalars .int) (map viewController kb))
+        (level : l .level ≡ highestIn ignore (c .scalars .int) (map viewController kb))
+        (after : Scalars) (put : viewScalars after ≡ set (viewScalars (c .scalars)) 8 (l .level))
       where
-        pub can-end : (used ≤ r .at) × (r .at ≤ length j′) × SameLevels (bef .controllers) (after .controllers)
-        can-end = (rolls-first .0, ran .short, rw put (same-levels (r .course .flow .int) (bef .controllers) (l .controllers) (fine .0 .three) lines))
+        pub can-end : (used ≤ at) × (at ≤ length j′) × SameLevels kb (l .controllers)
+        can-end = (rolls-first .0, omega arith, same-levels (c .scalars .int) kb (l .controllers) (fine .0 .three) lines)
 
         abbrev e₂ : Device
-        e₂ = whole after ignore tb′ b′ m′ p′ taken
+        e₂ = whole after (l .controllers) ignore tb′ b′ m′ p′ taken
 
         relevelled : Does relevel e e₂
         relevelled =
-            rw put (relevel-does e (way base (lending (length s)) d w j used good fits act (r .verdict) e w′ j′ (r .at) steps .good .sound-dev) lines level (highest-below ignore (r .course .flow .int) (map viewController (bef .controllers)) level))
+            rw put (relevel-does e (way base (lending (length s)) d w j used good fits act v e w′ j′ at steps .good .sound-dev) lines level (highest-below ignore (c .scalars .int) (map viewController kb) level))
 
-        module _ (n : Noted) (j₂ : List ℕ) (closing : (taken : List ℕ) → Closes n (fieldsIn bef b m p taken) (fieldsIn after b′ m′ p′ taken) used (r .at) j′ j₂) where
-          closed-whole : Closes n (fieldsOf d) (fieldsOf e₂) used (r .at) j′ j₂
-          closed-whole = rw (fields-in (held bef ignore tb b m p taken), fields-in (held after ignore tb′ b′ m′ p′ taken)) (closing taken)
+        module _ (n : Noted) (j₂ : List ℕ) (closing : (taken : List ℕ) → Closes n (fieldsIn bef kb b m p taken) (fieldsIn after (l .controllers) b′ m′ p′ taken) used at j′ j₂) where
+          closed-whole : Closes n (fieldsOf d) (fieldsOf e₂) used at j′ j₂
+          closed-whole = rw (fields-in (held bef kb ignore tb b m p taken), fields-in (held after (l .controllers) ignore tb′ b′ m′ p′ taken)) (closing taken)
 
-          pub rolls-last : (used ≤ r .at) × (used ≤ length j₂)
-          rolls-last = can-roll base (lending (length s)) d w j used good fits act (r .verdict) e w′ j′ (r .at) steps j₂ (closing taken .front) (closing taken .long)
+          pub rolls-last : (used ≤ at) × (used ≤ length j₂)
+          rolls-last = can-roll base (lending (length s)) d w j used good fits act v e w′ j′ at steps j₂ (closing taken .front) (closing taken .long)
 
-          module _ (h : r .verdict ≡ Verdict.Accepted) where
-            pub told-full : n ≡ Full → (w″ j″ : List ℕ) → RolledBack base used (r .at) w′ j₂ w″ j″ → told 11 Heard.Nothing d w″ s′ j″ used ≡ ends
+          module _ (h : v ≡ Verdict.Accepted) where
+            pub told-full : n ≡ Full → (w″ j″ : List ℕ) → RolledBack base used at w′ j₂ w″ j″ → told 11 Heard.Nothing d w″ s′ j″ used ≡ ends
             told-full f w″ j″ back =
-                ends-full base (lending (length s)) d w j used good fits act (r .verdict) e w′ j′ (r .at) steps h e₂ relevelled n j₂ closed-whole f w″ j″ back s′ _ (ran .cleared-staging)
+                ends-full base (lending (length s)) d w j used good fits act v e w′ j′ at steps h e₂ relevelled n j₂ closed-whole f w″ j″ back s′ _ (ran .cleared-staging)
 
             pub told-made-so : (end u : ℕ) → n ≡ At end → u ≡ min end (length j₂) → told 0 Heard.Nothing e₂ w′ s′ j₂ u ≡ ends
             told-made-so end u f q =
-                ends-made base (lending (length s)) d w j used good fits act (r .verdict) e w′ j′ (r .at) steps h e₂ relevelled n j₂ closed-whole s′ _ (ran .cleared-staging) end u f q
+                ends-made base (lending (length s)) d w j used good fits act v e w′ j′ at steps h e₂ relevelled n j₂ closed-whole s′ _ (ran .cleared-staging) end u f q

@@ -1,24 +1,23 @@
 // The public calls run and service: document 01, "The calls" and "Run, service, controllers".
 // Their contracts fix all that is there after a call, for all inputs (crate `rules`, specs/Calls.antt, `after`). A call takes the device apart
-// once, into local arrays, which the turns are lent, and `Small`; all is done on these parts, and the device is put together once. (Copies of
+// once, into local arrays, which the turns are lent, and its numbers; all is done on these parts, and the device is put together once. (Copies of
 // the device are what a short run would spend most of its time on.)
 use act::Flow;
+use act::Step;
 use closing::Noted;
-use closing::Small;
-use controllers::Levelled;
 use rules::Acted;
+use rules::Controller;
 use rules::Device;
 use rules::Refusal;
+use rules::Scalars;
 use rules::Verdict;
-use turns::Course;
-use turns::Turned;
 ghost use mathlib.Core.Bool.{true};
 ghost use mathlib.Core.Path.{_≡_};
 ghost use Prim.Native.Nat.{_+_, _^_, _≤_};
 ghost use lib.ListN.{length};
 ghost use Rattle.rules.specs.View.{view};
 ghost use Rattle.rules.specs.Calls.{verdictNumber, wrong, run as runCall, service as serviceCall, toldActed, after};
-ghost use Rattle.engine.specs.Runs.{courseOf, verdictOf, held, courseFrom, withCourse, RunsAll, Offers, Reaches, Carries, Sounds, Runs};
+ghost use Rattle.engine.specs.Runs.{held, RunsAll, Offers, Reaches, Carries, Sounds, Runs};
 
 // Refusals 5, 6 and 7, in that order.
 fn tested(time: u64, pace: u64, base: u32, window: usize, journal: usize, used: usize) -> Verdict
@@ -36,193 +35,110 @@ fn tested(time: u64, pace: u64, base: u32, window: usize, journal: usize, used: 
     Verdict::Accepted
 }
 
-// ---- the turns of a run
-
-fn course_of(s: Turned) -> Course
-    ensures { λ r. ⌜ r ≡ courseOf s ⌝ }
-{
-    match s {
-        Turned::On(t) => t,
-        Turned::Off(_, t) => t,
-    }
-}
-
-fn verdict_of(s: Turned) -> Verdict
-    ensures { λ r. ⌜ r ≡ verdictOf s ⌝ }
-{
-    match s {
-        Turned::On(_) => Verdict::Accepted,
-        Turned::Off(n, _) => Verdict::Refused(n),
-    }
-}
-
 // ---- a device in parts
-
-// What turns change besides arrays, where the journal ends at `used`.
-fn course_from(s: Small, used: usize) -> Course
-    ensures { λ r. ⌜ r ≡ courseFrom s used ⌝ }
-{
-    Course {
-        flow: Flow {
-            cr: s.cr,
-            erq: s.erq,
-            int: s.int,
-            kick: s.kick,
-            at: used,
-        },
-        deferred: s.deferred,
-        deadline: s.deadline,
-    }
-}
-
-// That put in, with controllers and level.
-fn with_course(s: Small, t: Course, l: Levelled) -> Small
-    ensures { λ r. ⌜ r ≡ withCourse s t (l .controllers) (l .level) ⌝ }
-{
-    let c = t.flow;
-    let controllers = l.controllers;
-    Small {
-        erq: c.erq,
-        eei: s.eei,
-        int: c.int,
-        err: s.err,
-        kick: c.kick,
-        deferred: t.deferred,
-        deadline: t.deadline,
-        standing: s.standing,
-        controllers,
-        cr: c.cr,
-        level: l.level,
-    }
-}
 
 // A device of these parts; taken counts and the ignore setting are those of `d`.
 fn put_together(
     d: Device,
-    s: Small,
+    scalars: Scalars,
+    controllers: [Controller; 3],
     table: [u8; 2048],
     busy: [u64; 64],
     majors: [u64; 64],
     pending: [u32; 64],
 ) -> Device
-    ensures { λ r. ⌜ r ≡ held s (d .«ignore_masks») table busy majors pending (d .taken) ⌝ }
+    ensures { λ r. ⌜ r ≡ held scalars controllers (d .«ignore_masks») table busy majors pending (d .taken) ⌝ }
 {
     let taken = d.taken;
-    let controllers = s.controllers;
     Device {
-        erq: s.erq,
-        eei: s.eei,
-        int: s.int,
-        err: s.err,
-        kick: s.kick,
-        deferred: s.deferred,
-        deadline: s.deadline,
-        standing: s.standing,
+        scalars,
         table,
         busy,
         majors,
         taken,
         pending,
         controllers,
-        cr: s.cr,
-        level: s.level,
         ignore_masks: d.ignore_masks,
     }
 }
 
 // ---- the turns of a run
 
-// What a run of turns came to besides arrays: the journal's end, and whether it is refused.
-pub struct Ran {
-    pub course: Course,
-    pub at: usize,
-    pub verdict: Verdict,
-}
-
 // All turns of a run. "Staging is [..] all zero after every other run or service."
 fn run_all(
-    t: Course,
-    standing: u64,
+    t: Flow,
     time: u64,
     pace: u64,
     base: u32,
     window: &mut [u8],
     table: &mut [u8; 2048],
+    busy: &mut [u64; 64],
     majors: &mut [u64; 64],
     pending: &mut [u32; 64],
-    busy: &mut [u64; 64],
     staging: &mut [u8],
     journal: &mut [u8],
-) -> Ran
+) -> Step
     requires { ⌜ (time ≤ 2 ^ 62) × (pace ≤ 1000000) ⌝ }
-    ensures { λ r. ⌜ RunsAll time pace base standing t r (now (window .entry)) (now (window .exit)) (now (staging .entry)) (now (staging .exit)) (now (journal .entry)) (now (journal .exit)) (now (table .entry)) (now (table .exit)) (now (majors .entry)) (now (majors .exit)) (now (pending .entry)) (now (pending .exit)) (now (busy .entry)) (now (busy .exit)) ⌝ }
+    ensures { λ r. ⌜ RunsAll time pace base t r (now (window .entry)) (now (window .exit)) (now (staging .entry)) (now (staging .exit)) (now (journal .entry)) (now (journal .exit)) (now (table .entry)) (now (table .exit)) (now (busy .entry)) (now (busy .exit)) (now (majors .entry)) (now (majors .exit)) (now (pending .entry)) (now (pending .exit)) ⌝ }
 {
     let s = turns::run_dma_inner(
         t,
-        standing,
         time,
         pace,
         base,
         window,
         table,
+        busy,
         majors,
         pending,
-        busy,
         staging,
         journal,
     );
     let len = staging.len();
     words::clear(staging, 0, len);
-    let course = course_of(s);
-    let c = course.flow;
-    Ran {
-        course,
-        at: words::least(c.at, journal.len()),
-        verdict: verdict_of(s),
-    }
+    s
 }
 
 // "Service: each busy time that is not 0 and not past `now` becomes 0. Those channels with ERQ set, and all of DEFERRED, join KICK if they
 // request or are in it; DEFERRED becomes 0": where its turns begin.
 fn dma_service(
-    s: Small,
+    n: Scalars,
     time: u64,
-    pending: &[u32; 64],
     busy: &mut [u64; 64],
+    pending: &[u32; 64],
     used: usize,
-) -> Course
-    ensures { λ r. ⌜ Offers true time s r (now (pending .entry)) (now (busy .entry)) (now (busy .exit)) used ⌝ }
+) -> Flow
+    ensures { λ r. ⌜ Offers true time n r (now (busy .entry)) (now (busy .exit)) (now (pending .entry)) used ⌝ }
 {
-    let back = turns::release(time, s.erq, busy);
-    let asking = controllers::waiting(s.standing, pending);
-    Course {
-        flow: Flow {
-            cr: s.cr,
-            erq: s.erq,
-            int: s.int,
-            kick: s.kick | ((back | s.deferred) & (asking | s.kick)),
-            at: used,
-        },
-        deferred: 0,
-        deadline: s.deadline,
+    let back = turns::release(time, n.erq, busy);
+    let asking = controllers::waiting(n.standing, pending);
+    let mut e = n;
+    e.kick = n.kick | ((back | n.deferred) & (asking | n.kick));
+    e.deferred = 0;
+    Flow {
+        scalars: e,
+        at: used,
     }
 }
 
 // The same of a service (`again`) or of a run, which begins with what is there.
 fn offered(
     again: bool,
-    s: Small,
+    n: Scalars,
     time: u64,
-    pending: &[u32; 64],
     busy: &mut [u64; 64],
+    pending: &[u32; 64],
     used: usize,
-) -> Course
-    ensures { λ r. ⌜ Offers again time s r (now (pending .entry)) (now (busy .entry)) (now (busy .exit)) used ⌝ }
+) -> Flow
+    ensures { λ r. ⌜ Offers again time n r (now (busy .entry)) (now (busy .exit)) (now (pending .entry)) used ⌝ }
 {
     if !again {
-        return course_from(s, used);
+        return Flow {
+            scalars: n,
+            at: used,
+        };
     }
-    dma_service(s, time, pending, busy, used)
+    dma_service(n, time, busy, pending, used)
 }
 
 // ---- a call
@@ -231,15 +147,17 @@ fn offered(
 pub struct Done {
     pub verdict: Verdict,
     pub used: usize,
-    pub small: Small,
+    pub scalars: Scalars,
+    pub controllers: [Controller; 3],
 }
 
 // The turns, then "lines and level anew" and the end of the act. 9, 10 or 11 "leaves window, device and used journal as at entry", and "journal
 // bytes past the used length: zero to the end"; but the arrays are left to the caller. `busy`, `majors` and `pending` are those at entry.
 fn carried(
-    before: Small,
+    before: Scalars,
+    controllers: [Controller; 3],
     ignore: bool,
-    t: Course,
+    t: Flow,
     time: u64,
     pace: u64,
     base: u32,
@@ -255,72 +173,78 @@ fn carried(
     journal: &mut [u8],
     used: usize,
 ) -> Done
-    requires { ⌜ (time ≤ 2 ^ 62) × (pace ≤ 1000000) × (used ≤ length (now journal)) × (base + length (now window) ≤ 2 ^ 32) × Reaches time pace base before ignore t (now window) (now staging) (now journal) (now table) (now busy) (now «busy_now») (now majors) (now «majors_now») (now pending) (now «pending_now») used ⌝ }
-    ensures { λ r. ⌜ Carries time pace base before ignore t r (now (window .entry)) (now (window .exit)) (now (staging .entry)) (now (staging .exit)) (now (journal .entry)) (now (journal .exit)) (now (table .entry)) (now (table .exit)) (now (busy .entry)) (now («busy_now» .entry)) (now («busy_now» .exit)) (now (majors .entry)) (now («majors_now» .entry)) (now («majors_now» .exit)) (now (pending .entry)) (now («pending_now» .entry)) (now («pending_now» .exit)) used ⌝ }
+    requires { ⌜ (time ≤ 2 ^ 62) × (pace ≤ 1000000) × (used ≤ length (now journal)) × (base + length (now window) ≤ 2 ^ 32) × Reaches time pace base before controllers ignore t (now window) (now staging) (now journal) (now table) (now busy) (now «busy_now») (now majors) (now «majors_now») (now pending) (now «pending_now») used ⌝ }
+    ensures { λ r. ⌜ Carries time pace base before controllers ignore t r (now (window .entry)) (now (window .exit)) (now (staging .entry)) (now (staging .exit)) (now (journal .entry)) (now (journal .exit)) (now (table .entry)) (now (table .exit)) (now (busy .entry)) (now («busy_now» .entry)) (now («busy_now» .exit)) (now (majors .entry)) (now («majors_now» .entry)) (now («majors_now» .exit)) (now (pending .entry)) (now («pending_now» .entry)) (now («pending_now» .exit)) used ⌝ }
 {
-    let r = run_all(
+    let s = run_all(
         t,
-        before.standing,
         time,
         pace,
         base,
         window,
         table,
+        busy_now,
         majors_now,
         pending_now,
-        busy_now,
         staging,
         journal,
     );
-    let at = r.at;
-    let v = r.verdict;
-    let Verdict::Accepted = v else {
-        journal::roll_back(base, window, journal, used, at);
-        return Done {
-            verdict: v,
-            used,
-            small: before,
-        };
-    };
-    let course = r.course;
-    let c = course.flow;
-    let controllers = before.controllers;
-    let settled = with_course(
-        before,
-        course,
-        controllers::relevelled(controllers, c.int, ignore),
-    );
-    let Noted::At(end) = closing::end_turns(
-        before,
-        settled,
-        busy,
-        busy_now,
-        majors,
-        majors_now,
-        pending,
-        pending_now,
-        journal,
-        used,
-        at,
-    ) else {
-        journal::roll_back(base, window, journal, used, at);
-        return Done {
-            verdict: Verdict::Refused(Refusal::Room),
-            used,
-            small: before,
-        };
-    };
-    Done {
-        verdict: Verdict::Accepted,
-        used: words::least(end, journal.len()),
-        small: settled,
+    // an end past the journal stands for the journal's end: a world tells the two not apart, and so no contract does
+    let len = journal.len();
+    match s {
+        Step::Refused(why, c) => {
+            journal::roll_back(base, window, journal, used, words::least(c.at, len));
+            Done {
+                verdict: Verdict::Refused(why),
+                used,
+                scalars: before,
+                controllers,
+            }
+        }
+        Step::Going(c) => {
+            let at = words::least(c.at, len);
+            let mut after = c.scalars;
+            let anew = controllers::relevelled(controllers, after.int, ignore);
+            after.level = anew.level;
+            let settled = anew.controllers;
+            let Noted::At(end) = closing::end_turns(
+                before,
+                after,
+                controllers,
+                settled,
+                busy,
+                busy_now,
+                majors,
+                majors_now,
+                pending,
+                pending_now,
+                journal,
+                used,
+                at,
+            ) else {
+                journal::roll_back(base, window, journal, used, at);
+                return Done {
+                    verdict: Verdict::Refused(Refusal::Room),
+                    used,
+                    scalars: before,
+                    controllers,
+                };
+            };
+            Done {
+                verdict: Verdict::Accepted,
+                used: words::least(end, journal.len()),
+                scalars: after,
+                controllers: settled,
+            }
+        }
     }
 }
 
 // A run, or a service (`again`), on a device in parts: after a refusal they are as at entry.
 fn run_dma(
     again: bool,
-    s: Small,
+    scalars: Scalars,
+    controllers: [Controller; 3],
     ignore: bool,
     time: u64,
     pace: u64,
@@ -334,15 +258,16 @@ fn run_dma(
     journal: &mut [u8],
     used: usize,
 ) -> Done
-    requires { ⌜ Sounds s ignore (now table) (now busy) (now majors) (now pending) ⌝ }
-    ensures { λ r. ⌜ Runs again time pace base s ignore r (now (window .entry)) (now (window .exit)) (now (staging .entry)) (now (staging .exit)) (now (journal .entry)) (now (journal .exit)) (now (table .entry)) (now (table .exit)) (now (busy .entry)) (now (busy .exit)) (now (majors .entry)) (now (majors .exit)) (now (pending .entry)) (now (pending .exit)) used ⌝ }
+    requires { ⌜ Sounds scalars controllers ignore (now table) (now busy) (now majors) (now pending) ⌝ }
+    ensures { λ r. ⌜ Runs again time pace base scalars controllers ignore r (now (window .entry)) (now (window .exit)) (now (staging .entry)) (now (staging .exit)) (now (journal .entry)) (now (journal .exit)) (now (table .entry)) (now (table .exit)) (now (busy .entry)) (now (busy .exit)) (now (majors .entry)) (now (majors .exit)) (now (pending .entry)) (now (pending .exit)) used ⌝ }
 {
     let v = tested(time, pace, base, window.len(), journal.len(), used);
     let Verdict::Accepted = v else {
         return Done {
             verdict: v,
             used,
-            small: s,
+            scalars,
+            controllers,
         };
     };
     let table_before = *table;
@@ -350,9 +275,10 @@ fn run_dma(
     let majors_before = *majors;
     let pending_before = *pending;
     let r = carried(
-        s,
+        scalars,
+        controllers,
         ignore,
-        offered(again, s, time, pending, busy, used),
+        offered(again, scalars, time, busy, pending, used),
         time,
         pace,
         base,
@@ -396,9 +322,12 @@ pub fn run(
     let mut busy = d.busy;
     let mut majors = d.majors;
     let mut pending = d.pending;
+    let scalars = d.scalars;
+    let controllers = d.controllers;
     let r = run_dma(
         false,
-        closing::small_of(d),
+        scalars,
+        controllers,
         d.ignore_masks,
         time,
         pace,
@@ -413,11 +342,20 @@ pub fn run(
         used,
     );
     let verdict = r.verdict;
-    let small = r.small;
+    let scalars_now = r.scalars;
+    let controllers_now = r.controllers;
     Acted {
         verdict,
         used: r.used,
-        device: put_together(d, small, table, busy, majors, pending),
+        device: put_together(
+            d,
+            scalars_now,
+            controllers_now,
+            table,
+            busy,
+            majors,
+            pending,
+        ),
     }
 }
 
@@ -438,9 +376,12 @@ pub fn service(
     let mut busy = d.busy;
     let mut majors = d.majors;
     let mut pending = d.pending;
+    let scalars = d.scalars;
+    let controllers = d.controllers;
     let r = run_dma(
         true,
-        closing::small_of(d),
+        scalars,
+        controllers,
         d.ignore_masks,
         time,
         pace,
@@ -455,10 +396,19 @@ pub fn service(
         used,
     );
     let verdict = r.verdict;
-    let small = r.small;
+    let scalars_now = r.scalars;
+    let controllers_now = r.controllers;
     Acted {
         verdict,
         used: r.used,
-        device: put_together(d, small, table, busy, majors, pending),
+        device: put_together(
+            d,
+            scalars_now,
+            controllers_now,
+            table,
+            busy,
+            majors,
+            pending,
+        ),
     }
 }

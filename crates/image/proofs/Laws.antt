@@ -1,19 +1,23 @@
 -- The laws that the proofs of this crate cite: numbers laid down and read, place by place. Assumes nothing.
 use mathlib.Core.Bool.{Bool, true, false, cond, false≢true}
 use mathlib.Core.List.{List, [], _∷_, _++_, append-nil}
-use mathlib.Core.Path.{_≡_, refl, sym, ap, _∙_}
+use mathlib.Core.Path.{_≡_, refl, sym, ap, ap₂, _∙_}
 use Prim.Native.Nat.{ℕ, zero, suc, _+_, _-_, _*_, _%_, _^_, _≤_, _<_}
-use native.Mathlib.Nat.{mod-eq-of-lt, add-zero, add-suc, sub-zero, sub-self}
+use native.Mathlib.Nat.{mod-eq-of-lt, zero-add, add-zero, add-suc, suc-add, sub-zero, sub-self, le-antisymm, not-suc-le-zero, le-of-suc-le-suc}
 use native.Mathlib.Numerals.{add-one}
 use native.Mathlib.Omega.{arith}
-use borrow.Author.Tests.{eqb-true, eq-eqb, ne-eqb}
-use lib.Dec.{eqb}
+use borrow.Author.Tests.{eqb-true, eq-eqb, ne-eqb, leb-true}
+use lib.Dec.{eqb, leb}
 use lib.ListN.{length, getD, set, drop, length-append, drop-of-length-le}
 use lib.Seq.{drop-cons, drop-length}
 use Rattle.rules.specs.Bytes.{bytes, number, part, splice}
+use Rattle.rules.specs.Scalars.{scalarBits}
 use Rattle.rules.proofs.BytesLaws.{splice-append, splice-comm, splice-nil, length-part, length-bytes}
 use Rattle.rules.proofs.Cut.{splice-cut}
-use Rattle.image.specs.Image.{laid, flagged, numberIn, numbersIn, alike}
+use Rattle.rules.proofs.Powers.{low-low}
+use Rattle.rules.proofs.ScalarLaws.{scalar-bits}
+use Rattle.device.specs.Spots.{low, cut}
+use Rattle.image.specs.Image.{laid, flagged, numberIn, numbersIn, scalarsIn, alike}
 
 -- ---- laying down
 
@@ -92,6 +96,35 @@ pub splice-all : (x y : List ℕ) → length y ≡ length x → splice x 0 y ≡
 splice-all x y e =
     let none : drop (0 + length y) x ≡ [] = drop-of-length-le x {i = 0 + length y} (omega (arith, e)) in
     splice-cut x 0 y (omega (arith, e)) ∙ ap (λ l. y ++ l) none ∙ append-nil y
+
+number-of : (bits : ℕ) (b : List ℕ) (n k i : ℕ) → i < k → getD (numbersIn bits b n k) i 0 ≡ numberIn bits b (n + i)
+unfolding numbersIn
+number-of bits b n zero i h = absurd (not-suc-le-zero h)
+number-of bits b n (suc k) zero h = ap (numberIn bits b) (sym (add-zero n))
+number-of bits b n (suc k) (suc i) h = number-of bits b (suc n) k i (le-of-suc-le-suc h) ∙ ap (numberIn bits b) (suc-add n i ∙ sym (add-suc n i))
+
+-- the low bits of a number that was read whole
+low-number : (bits : ℕ) (b : List ℕ) (n : ℕ) → bits ≤ 64 → low bits (numberIn 64 b n) ≡ numberIn bits b n
+unfolding low numberIn
+low-number bits b n h = by (leb 64 bits) refl
+  where
+    x : ℕ
+    x = number (part b (2064 + 8 * n) 8)
+
+    by : (t : Bool) → leb 64 bits ≡ t → cond t (x % 2 ^ 64) (x % 2 ^ 64 % 2 ^ bits) ≡ x % 2 ^ bits
+    by true e = ap (λ (k : ℕ). x % 2 ^ k) (le-antisymm (leb-true 64 bits e) h)
+    by false e = low-low 64 bits x h
+
+-- numbers read whole, and then cut
+cut-in : (bs b : List ℕ) (n k : ℕ) → ((i : ℕ) → getD bs i 64 ≤ 64) → n + length bs ≤ k → cut n bs (numbersIn 64 b 0 k) ≡ scalarsIn bs b n
+unfolding cut scalarsIn
+cut-in [] b n k h l = refl
+cut-in (w ∷ ws) b n k h l =
+    ap₂ (λ y ys. y ∷ ys) (ap (low w) (number-of 64 b 0 k n (omega arith) ∙ ap (numberIn 64 b) (zero-add n)) ∙ low-number w b n (h 0))
+    (cut-in ws b (suc n) k (λ i. h (suc i)) (omega arith))
+
+pub scalars-got : (b : List ℕ) {first scalars : List ℕ} → first ≡ numbersIn 64 b 0 16 → scalars ≡ cut 0 scalarBits first → scalars ≡ scalarsIn scalarBits b 0
+scalars-got b p q = q ∙ ap (cut 0 scalarBits) p ∙ cut-in scalarBits b 0 16 (λ i. leb-true (getD scalarBits i 64) 64 (scalar-bits i .1)) (omega arith)
 
 module _ (bits : ℕ) (b x : List ℕ) (from : ℕ) where
   pub numbers-none : x ≡ splice x (length x) (numbersIn bits b (from + length x) (length x - length x))

@@ -1,8 +1,8 @@
 -- There and back: the device that stands in a device's image is that device, so its image is one, and no two devices have the same. Assumes nothing.
 use mathlib.Core.Bool.{Bool, true, false, cond}
 use mathlib.Core.List.{List, [], _∷_, _++_, append-assoc}
-use mathlib.Core.Path.{_≡_, refl, sym, ap, _∙_}
-use Prim.Native.Nat.{ℕ, zero, suc, _+_, _*_, _%_, _^_, _<_}
+use mathlib.Core.Path.{_≡_, refl, sym, ap, ap₂, _∙_}
+use Prim.Native.Nat.{ℕ, zero, suc, _+_, _-_, _*_, _%_, _^_, _<_}
 use native.Mathlib.Nat.{mod-lt, mod-eq-of-lt, zero-add, add-zero, add-suc, suc-add, not-suc-le-zero, le-of-suc-le-suc, suc-inj}
 use native.Mathlib.Omega.{arith}
 use borrow.Author.Tests.{eq-eqb, leb-true}
@@ -10,17 +10,18 @@ use lib.Dec.{eqb, lit<}
 use lib.ListN.{length, getD, replicate, length-append, List·getD-append}
 use lib.Pow.{pow-pos}
 use lib.Seq.{getD-append-add, getD-at}
-use Rattle.rules.specs.Act.{Field, CR, ERQ, EEI, INT, ERR, KICK, DEFERRED, DEADLINE, LEVEL, STANDING, MASKS, FORCED, LINES, CONFIG, BUSY, MAJORS, PENDING, SOURCE, TAKEN}
+use Rattle.rules.specs.Act.{Field, SCALAR, MASKS, FORCED, LINES, CONFIG, BUSY, MAJORS, PENDING, SOURCE, TAKEN}
+use Rattle.rules.specs.Scalars.{scalarBits}
 use Rattle.rules.specs.Bytes.{Bytes, bytes, number, part}
-use Rattle.rules.specs.Fields.{fieldsOf, headOf, partsOf, numberOf, bitsOf, holds, controller}
+use Rattle.rules.specs.Fields.{fieldsOf, ownOf, partsOf, numberOf, bitsOf, holds, controller}
 use Rattle.rules.specs.State.{Controller, Device}
 use Rattle.rules.proofs.BytesLaws.{length-bytes, value-of-bytes, length-part, bytes-part}
-use Rattle.rules.proofs.FieldLaws.{sizes, bitParts, Sound, sized, spot, Real, holds-fits, holds-number, in-three}
+use Rattle.rules.proofs.FieldLaws.{sizes, bitParts, Sound, sized, levels-long, spot, Real, holds-fits, holds-number, in-three}
 use Rattle.rules.proofs.Powers.{low-low}
 use Rattle.rules.proofs.Each.{Proper}
 use Rattle.rules.proofs.PartLaws.{Within}
 use Rattle.device.proofs.Laws.{some-to-64}
-use Rattle.image.specs.Image.{laid, flagged, imageOf, numberIn, numbersIn, controllerIn, deviceIn, alike, isImage}
+use Rattle.image.specs.Image.{laid, flagged, imageOf, numberIn, numbersIn, scalarsIn, controllerIn, deviceIn, alike, isImage}
 use Rattle.image.proofs.Rows.{device-got, length-joined, total, length-flagged}
 
 -- ---- parts of a list in two
@@ -85,6 +86,16 @@ numbers-are bits b n (suc k) (x ∷ xs) e h =
     let rest : numbersIn bits b (suc n) k ≡ xs = numbers-are bits b (suc n) k xs (suc-inj e) (λ i l. ap (numberIn bits b) (suc-add n i ∙ sym (add-suc n i)) ∙ h (suc i) (omega (arith, l))) in
     rw (first, rest) refl
 
+scalars-are : (bs b : List ℕ) (n : ℕ) (xs : List ℕ) → length xs ≡ length bs → ((i : ℕ) → i < length bs → numberIn (getD bs i 64) b (n + i) ≡ getD xs i 0) → xs ≡ scalarsIn bs b n
+unfolding scalarsIn
+scalars-are [] b n [] e h = refl
+scalars-are [] b n (x ∷ xs) e h = absurd (omega (arith, e))
+scalars-are (w ∷ ws) b n [] e h = absurd (omega (arith, e))
+scalars-are (w ∷ ws) b n (x ∷ xs) e h =
+    let first : x ≡ numberIn w b n = sym (h 0 (omega arith)) ∙ ap (numberIn w b) (add-zero n) in
+    let rest : xs ≡ scalarsIn ws b (suc n) = scalars-are ws b (suc n) xs (suc-inj e) (λ i l. ap (numberIn (getD ws i 64) b) (suc-add n i ∙ sym (add-suc n i)) ∙ h (suc i) (omega (arith, l))) in
+    ap₂ (λ y ys. y ∷ ys) first rest
+
 three-are : (l : List Controller) → length l ≡ 3 → l ≡ controller l 0 ∷ controller l 1 ∷ controller l 2 ∷ []
 three-are l e = in-three (λ l. l ≡ controller l 0 ∷ controller l 1 ∷ controller l 2 ∷ []) (λ a b c. refl) l e
 
@@ -94,22 +105,13 @@ made-of k a b c d e = rw (← a, ← b, ← c, ← d, ← e) refl
 
 with-own : (d : Device) {l : List Controller} {b : Bool} → d .controllers ≡ l → d .ignore ≡ b
     → _≡_ {A = Device} d (record {
-      erq = d .erq;
-      eei = d .eei;
-      int = d .int;
-      err = d .err;
-      kick = d .kick;
-      deferred = d .deferred;
-      deadline = d .deadline;
-      standing = d .standing;
+      scalars = d .scalars;
       table = d .table;
       busy = d .busy;
       majors = d .majors;
       taken = d .taken;
       pending = d .pending;
       controllers = l;
-      cr = d .cr;
-      level = d .level;
       ignore = b;
     })
 with-own d p q = rw (← p, ← q) refl
@@ -152,33 +154,34 @@ module _ (d : Device) (s : Sound d) (t : length (d .table) ≡ 2048) where
   levels c from h e = row 8 from 64 (controller (d .controllers) c .levels) e h
 
   own : (c : ℕ) → c < 3 → controller (d .controllers) c ≡ controllerIn (imageOf d) c
-  unfolding controllerIn bitsOf numberOf spot partsOf
+  unfolding controllerIn bitsOf numberOf spot
   own zero h =
       made-of (controller (d .controllers) 0) (at-image (MASKS 0) (lit< tt) (lit< tt)) (at-image (FORCED 0) (lit< tt) (lit< tt)) (at-image (LINES 0) (lit< tt) (lit< tt))
-      (levels 0 256 (λ i l. field-in d s t (SOURCE 0 i) l (omega (arith, l))) (sized d s .1 .1 .1 .1 .0)) (at-image (CONFIG 0) (lit< tt) (lit< tt))
+      (levels 0 256 (λ i l. field-in d s t (SOURCE 0 i) l (omega (arith, l))) (levels-long d s 0 (lit< tt))) (at-image (CONFIG 0) (lit< tt) (lit< tt))
   own (suc zero) h =
       made-of (controller (d .controllers) 1) (at-image (MASKS 1) (lit< tt) (lit< tt)) (at-image (FORCED 1) (lit< tt) (lit< tt)) (at-image (LINES 1) (lit< tt) (lit< tt))
-      (levels 1 320 (λ i l. field-in d s t (SOURCE 1 i) l (omega (arith, l))) (sized d s .1 .1 .1 .1 .1 .0)) (at-image (CONFIG 1) (lit< tt) (lit< tt))
+      (levels 1 320 (λ i l. field-in d s t (SOURCE 1 i) l (omega (arith, l))) (levels-long d s 1 (lit< tt))) (at-image (CONFIG 1) (lit< tt) (lit< tt))
   own (suc (suc zero)) h =
       made-of (controller (d .controllers) 2) (at-image (MASKS 2) (lit< tt) (lit< tt)) (at-image (FORCED 2) (lit< tt) (lit< tt)) (at-image (LINES 2) (lit< tt) (lit< tt))
-      (levels 2 384 (λ i l. field-in d s t (SOURCE 2 i) l (omega (arith, l))) (sized d s .1 .1 .1 .1 .1 .1 .0)) (at-image (CONFIG 2) (lit< tt) (lit< tt))
+      (levels 2 384 (λ i l. field-in d s t (SOURCE 2 i) l (omega (arith, l))) (levels-long d s 2 (lit< tt))) (at-image (CONFIG 2) (lit< tt) (lit< tt))
   own (suc (suc (suc c))) h = absurd (omega arith)
 
   -- the device that stands in a device's image
   pub image-round : deviceIn (imageOf d) ≡ d
   unfolding bitsOf numberOf spot partsOf
   image-round =
-      let f : (g : Field) → Real g → numberOf g < 768 → holds g d ≡ numberIn (bitsOf g) (imageOf d) (numberOf g) = at-image in
-      let in-rows = sized d s .1 in
+      let in-rows = sized d s .1 .1 .1 in
       sym (with-own d (three-are (d .controllers) (s .three)) setting
-      ∙ device-got (imageOf d) (f ERQ (lit< tt) (lit< tt)) (f EEI (lit< tt) (lit< tt)) (f INT (lit< tt) (lit< tt)) (f ERR (lit< tt) (lit< tt)) (f KICK (lit< tt) (lit< tt))
-      (f DEFERRED (lit< tt) (lit< tt)) (f DEADLINE (lit< tt) (lit< tt)) (f STANDING (lit< tt) (lit< tt)) table-first
+      ∙ device-got (imageOf d) (scalars-are scalarBits (imageOf d) 0 (d .scalars) (sized d s .0) (λ i l. scalar-at i l)) table-first
       (row 64 64 64 (d .busy) (in-rows .0) (λ i l. field-in d s t (BUSY i) l (omega (arith, l))))
       (row 64 128 64 (d .majors) (in-rows .1 .0) (λ i l. field-in d s t (MAJORS i) l (omega (arith, l))))
       (row 64 576 192 (d .taken) (in-rows .1 .1 .1 .1 .1 .1 .1 .0) (λ i l. taken-at i l))
       (row 32 192 64 (d .pending) (in-rows .1 .1 .0) (λ i l. field-in d s t (PENDING i) l (omega (arith, l))))
-      (own 0 (lit< tt)) (own 1 (lit< tt)) (own 2 (lit< tt)) (f CR (lit< tt) (lit< tt)) (f LEVEL (lit< tt) (lit< tt)))
+      (own 0 (lit< tt)) (own 1 (lit< tt)) (own 2 (lit< tt)))
     where
+      scalar-at : (i : ℕ) → i < length scalarBits → numberIn (getD scalarBits i 64) (imageOf d) (0 + i) ≡ getD (d .scalars) i 0
+      scalar-at i l = ap (numberIn (getD scalarBits i 64) (imageOf d)) (zero-add i) ∙ field-in d s t (SCALAR i) (unfold spot in l) (unfold numberOf in omega (arith, l))
+
       taken-at : (i : ℕ) → i < 192 → numberIn 64 (imageOf d) (576 + i) ≡ getD (d .taken) i 0
       taken-at i l = ap (numberIn 64 (imageOf d)) (omega arith) ∙ field-in d s t (TAKEN i) (unfold spot in l) (unfold numberOf in omega (arith, l))
 
@@ -201,6 +204,11 @@ unfolding numbersIn numberIn
 numbers-within bits b n zero = tt
 numbers-within bits b n (suc k) = (mod-lt (number (part b (2064 + 8 * n) 8)) (pow-pos bits), numbers-within bits b (suc n) k)
 
+scalars-within : (bs b : List ℕ) (n : ℕ) → Within bs (scalarsIn bs b n)
+unfolding scalarsIn numberIn
+scalars-within [] b n = tt
+scalars-within (w ∷ ws) b n = (mod-lt (number (part b (2064 + 8 * n) 8)) (pow-pos w), scalars-within ws b (suc n))
+
 zeros-within : (k : ℕ) → Within (replicate k 0) (replicate k 0)
 zeros-within zero = tt
 zeros-within (suc k) = (lit< tt, zeros-within k)
@@ -210,16 +218,21 @@ unfolding numberIn
 number-within bits b n = mod-lt (number (part b (2064 + 8 * n) 8)) (pow-pos bits)
 
 pub proper-in : (b : List ℕ) → Bytes b → Proper (deviceIn b)
-unfolding deviceIn controllerIn bitParts partsOf headOf
+unfolding deviceIn controllerIn bitParts partsOf ownOf
 proper-in b h =
     let w : (bits n : ℕ) → numberIn bits b n < 2 ^ bits = λ bits n. number-within bits b n in
-    let z : 0 < 2 ^ 0 = lit< tt in
     record {
       sound = record {
         three = refl;
         fitting = (
-          (w 32 0, (w 64 1, (w 64 2, (w 64 3, (w 64 4, (w 64 5, (w 64 6, (w 64 7, (w 8 8, (w 64 9, (z, (z, (z, (z, (z, (z, (w 64 16, (w 64 17, (w 64 18, (w 16 19, (w 64 20, (w 64 21, (w 64 22, (w 16 23, (w 64 24, (w 64 25, (w 64 26, (w 16 27, zeros-within 36)))))))))))))))))))))))))))),
-          (numbers-within 64 b 64 64, (numbers-within 64 b 128 64, (numbers-within 32 b 192 64, (numbers-within 8 b 256 64, (numbers-within 8 b 320 64, (numbers-within 8 b 384 64, (zeros-within 128, (numbers-within 64 b 576 192, tt)))))))),
+          scalars-within scalarBits b 0,
+          (
+            zeros-within (16 - length scalarBits),
+            (
+              (w 64 16, (w 64 17, (w 64 18, (w 16 19, (w 64 20, (w 64 21, (w 64 22, (w 16 23, (w 64 24, (w 64 25, (w 64 26, (w 16 27, zeros-within 36)))))))))))),
+              (numbers-within 64 b 64 64, (numbers-within 64 b 128 64, (numbers-within 32 b 192 64, (numbers-within 8 b 256 64, (numbers-within 8 b 320 64, (numbers-within 8 b 384 64, (zeros-within 128, (numbers-within 64 b 576 192, tt)))))))),
+            ),
+          ),
         );
         table-bytes = bytes-part b 0 2048 h;
       };

@@ -2,20 +2,20 @@
 use mathlib.Core.Bool.{Bool, true, false}
 use mathlib.Core.List.{List, [], _∷_, _++_, append-nil, append-assoc}
 use mathlib.Core.Path.{_≡_, refl, sym, ap, _∙_}
-use Prim.Native.Nat.{ℕ, _+_, _*_, _^_, _<_}
+use Prim.Native.Nat.{ℕ, _+_, _-_, _*_, _≤_}
 use native.Mathlib.Nat.{zero-add}
 use native.Mathlib.Omega.{arith}
 use lib.Dec.{eqb}
-use lib.ListN.{length, getD, replicate, length-append}
-use Rattle.rules.specs.Act.{CR, LEVEL}
+use lib.ListN.{length, getD, replicate, length-append, length-replicate, replicate-append-replicate}
+use Rattle.rules.specs.Scalars.{scalarBits}
 use Rattle.rules.specs.Bytes.{bytes, part, splice}
-use Rattle.rules.specs.Fields.{joined, headOf, partsOf, fieldsOf, controller, masksOf, bitsOf}
+use Rattle.rules.specs.Fields.{joined, ownOf, partsOf, fieldsOf, controller, masksOf}
 use Rattle.rules.specs.State.{Controller, Device}
-use Rattle.rules.proofs.BytesLaws.{length-part}
-use Rattle.rules.proofs.FieldLaws.{sizes, Sound, sized, holds-fits}
+use Rattle.rules.proofs.BytesLaws.{splice-append, splice-splice, length-part}
+use Rattle.rules.proofs.FieldLaws.{sizes, Sound, sized}
 use Rattle.rules.proofs.PartLaws.{Sized}
-use Rattle.image.specs.Image.{laid, flagged, imageOf, deviceIn, controllerIn, numberIn, numbersIn, alike, isImage}
-use Rattle.image.specs.Parts.{channelsOf, levelsOf, takenOf}
+use Rattle.image.specs.Image.{laid, flagged, imageOf, deviceIn, controllerIn, numbersIn, scalarsIn, alike, isImage}
+use Rattle.image.specs.Parts.{scalarsOf, channelsOf, levelsOf, takenOf}
 use Rattle.image.proofs.Laws.{length-laid, splice-next, splice-all, length-numbers, alike-lengths, alike-same}
 
 laid-append : (xs ys : List ℕ) → laid (xs ++ ys) ≡ laid xs ++ laid ys
@@ -58,32 +58,53 @@ laid-as x y at e p = e ∙ ap (λ (k : Controller). splice x at (laid (k .levels
 
 -- ---- the rows of a device
 
--- the head as the code makes it, of the device's controllers k, l, m
-pub head-laid : (d : Device) (x y : List ℕ) (at : ℕ) {k l m : Controller} → k ≡ controller (d .controllers) 0 → l ≡ controller (d .controllers) 1 → m ≡ controller (d .controllers) 2
-    → y ≡ splice x at (laid (d .cr ∷ d .erq ∷ d .eei ∷ d .int ∷ d .err ∷ d .kick ∷ d .deferred ∷ d .deadline ∷ d .level ∷ d .standing ∷ 0 ∷ 0 ∷ 0 ∷ 0 ∷ 0 ∷ 0 ∷ masksOf k (masksOf l (masksOf m (replicate 36 0)))))
-    → y ≡ splice x at (laid (headOf d))
-unfolding headOf
-head-laid d x y at p q r e = rw (← p, ← q, ← r) e
+-- each controller's own four as the code makes them, of the device's controllers k, l, m
+pub own-laid : (d : Device) (x y : List ℕ) (at : ℕ) {k l m : Controller} → k ≡ controller (d .controllers) 0 → l ≡ controller (d .controllers) 1 → m ≡ controller (d .controllers) 2
+    → y ≡ splice x at (laid (masksOf k (masksOf l (masksOf m (replicate 36 0))))) → y ≡ splice x at (laid (ownOf d))
+unfolding ownOf
+own-laid d x y at p q r e = rw (← p, ← q, ← r) e
+
+-- a row laid over the first of n zeros
+over-zeros : (x : List ℕ) (at n : ℕ) (v : List ℕ) → length v ≤ n
+    → splice (splice x at (laid (replicate n 0))) at (laid v) ≡ splice x at (laid (joined (v ∷ replicate (n - length v) 0 ∷ [])))
+unfolding joined
+over-zeros x at n v h =
+    let k : ℕ = length v in
+    let first : List ℕ = laid (replicate k 0) in
+    let rest : List ℕ = laid (replicate (n - k) 0) in
+    let all : n ≡ k + (n - k) = omega arith in
+    let zeros : laid (replicate n 0) ≡ first ++ rest = ap (λ m. laid (replicate m 0)) all ∙ ap laid (sym (replicate-append-replicate k (n - k) 0)) ∙ laid-append (replicate k 0) (replicate (n - k) 0) in
+    let long : length first ≡ length (laid v) = length-laid (replicate k 0) ∙ ap (λ m. 8 * m) (length-replicate k 0) ∙ sym (length-laid v) in
+    ap (λ l. splice (splice x at l) at (laid v)) zeros
+    ∙ ap (λ l. splice l at (laid v)) (splice-append x at first rest)
+    ∙ splice-splice (splice x (at + length first) rest) at first (laid v) (omega (arith, long))
+    ∙ ap (λ m. splice (splice x (at + m) rest) at (laid v)) long
+    ∙ sym (splice-append x at (laid v) rest)
+    ∙ ap (splice x at) (sym (laid-append v (replicate (n - k) 0)) ∙ ap (λ l. laid (v ++ l)) (sym (append-nil (replicate (n - k) 0))))
 
 module _ (d : Device) (s : Sound d) where
-  pub narrow : (d .cr < 2 ^ 32) × (d .level < 2 ^ 8)
-  unfolding bitsOf
-  narrow = (holds-fits CR d s, holds-fits LEVEL d s)
+  pub scalars-laid : (x y z : List ℕ) {l : List ℕ} → l ≡ d .scalars → y ≡ splice x 2064 (laid (replicate 16 0)) → z ≡ splice y 2064 (laid l)
+      → z ≡ splice x 2064 (laid (joined (scalarsOf d)))
+  unfolding partsOf
+  scalars-laid x y z e p q =
+      let long : length (d .scalars) ≡ length scalarBits = sized d s .0 in
+      q ∙ ap (λ m. splice y 2064 (laid m)) e ∙ ap (λ m. splice m 2064 (laid (d .scalars))) p ∙ over-zeros x 2064 16 (d .scalars) (omega (arith, long))
+      ∙ ap (λ n. splice x 2064 (laid (joined (d .scalars ∷ replicate (16 - n) 0 ∷ [])))) long
 
   pub channels-long : (length (d .busy) ≡ 64) × (length (d .majors) ≡ 64) × (length (d .pending) ≡ 64)
   unfolding partsOf
-  channels-long = let t = sized d s .1 in (t .0, t .1 .0, t .1 .1 .0)
+  channels-long = let t = sized d s .1 .1 .1 in (t .0, t .1 .0, t .1 .1 .0)
 
   pub taken-long : length (d .taken) ≡ 192
   unfolding partsOf
-  taken-long = sized d s .1 .1 .1 .1 .1 .1 .1 .1 .0
+  taken-long = sized d s .1 .1 .1 .1 .1 .1 .1 .1 .1 .1 .0
 
 module _ (d : Device) (s : Sound d) (x y z w u : List ℕ) where
   pub channels-laid : y ≡ splice x 2576 (laid (d .busy)) → z ≡ splice y 3088 (laid (d .majors)) → w ≡ splice z 3600 (laid (d .pending))
       → w ≡ splice x 2576 (laid (joined (channelsOf d)))
   unfolding total partsOf
   channels-laid p q r =
-      let t = sized d s in
+      let t = sized d s .1 .1 in
       row-more x z w 2576 3600 (d .busy ∷ d .majors ∷ []) (d .pending) (64 ∷ 64 ∷ []) (t .1 .0, (t .1 .1 .0, tt)) refl
       (row-more x y z 2576 3088 (d .busy ∷ []) (d .majors) (64 ∷ []) (t .1 .0, tt) refl (row-first x y 2576 (d .busy) p) q) r
 
@@ -91,7 +112,7 @@ module _ (d : Device) (s : Sound d) (x y z w u : List ℕ) where
       → w ≡ splice z 5136 (laid (controller (d .controllers) 2 .levels)) → u ≡ splice w 5648 (laid (replicate 128 0)) → u ≡ splice x 4112 (laid (joined (levelsOf d)))
   unfolding total partsOf
   levels-laid p q r v =
-      let t = sized d s .1 .1 .1 .1 in
+      let t = sized d s .1 .1 .1 .1 .1 .1 in
       let k : ℕ → List ℕ = λ c. controller (d .controllers) c .levels in
       row-more x w u 4112 5648 (k 0 ∷ k 1 ∷ k 2 ∷ []) (replicate 128 0) (64 ∷ 64 ∷ 64 ∷ []) (t .0, (t .1 .0, (t .1 .1 .0, tt))) refl
       (row-more x z w 4112 5136 (k 0 ∷ k 1 ∷ []) (k 2) (64 ∷ 64 ∷ []) (t .0, (t .1 .0, tt)) refl
@@ -100,12 +121,12 @@ module _ (d : Device) (s : Sound d) (x y z w u : List ℕ) where
   pub taken-laid : y ≡ splice x 6672 (laid (d .taken)) → z ≡ splice y 8208 (laid (replicate 64 0)) → z ≡ splice x 6672 (laid (joined (takenOf d)))
   unfolding total partsOf
   taken-laid p q =
-      let t = sized d s .1 .1 .1 .1 .1 .1 .1 .1 in
+      let t = sized d s .1 .1 .1 .1 .1 .1 .1 .1 .1 .1 in
       row-more x y z 6672 8208 (d .taken ∷ []) (replicate 64 0) (192 ∷ []) (t .0, tt) refl (row-first x y 6672 (d .taken) p) q
 
 -- ---- the image
 
-rows : (d : Device) → joined (headOf d ∷ joined (channelsOf d) ∷ joined (levelsOf d) ∷ joined (takenOf d) ∷ []) ≡ fieldsOf d ++ replicate 64 0
+rows : (d : Device) → joined (joined (scalarsOf d) ∷ ownOf d ∷ joined (channelsOf d) ∷ joined (levelsOf d) ∷ joined (takenOf d) ∷ []) ≡ fieldsOf d ++ replicate 64 0
 unfolding joined partsOf fieldsOf
 rows d = simp (append-assoc, append-nil)
 
@@ -121,42 +142,48 @@ length-image d t s =
     let n : length (joined (partsOf d) ++ replicate 64 0) ≡ 832 = length-append (joined (partsOf d)) (replicate 64 0) ∙ rw (length-joined sizes (partsOf d) s) refl in
     length-append (d .table ++ flagged (d .ignore)) (laid (joined (partsOf d) ++ replicate 64 0)) ∙ rw (front, length-laid (joined (partsOf d) ++ replicate 64 0), n) refl
 
-length-head : (d : Device) → length (headOf d) ≡ 64
-unfolding headOf
-length-head d = refl
+module _ (d : Device) (s : Sound d) (t : length (d .table) ≡ 2048) (x y z n a b c e : List ℕ) where
+  length-scalars : length (joined (scalarsOf d)) ≡ 16
+  unfolding total partsOf
+  length-scalars = let k = sized d s in length-joined (length scalarBits ∷ (16 - length scalarBits) ∷ []) (scalarsOf d) (k .0, (k .1 .0, tt))
 
-module _ (d : Device) (s : Sound d) (t : length (d .table) ≡ 2048) (x y z a b c e : List ℕ) where
+  length-own : length (ownOf d) ≡ 48
+  unfolding partsOf
+  length-own = sized d s .1 .1 .0
+
   length-channels : length (joined (channelsOf d)) ≡ 192
   unfolding total partsOf
-  length-channels = let k = sized d s .1 in length-joined (64 ∷ 64 ∷ 64 ∷ []) (channelsOf d) (k .0, (k .1 .0, (k .1 .1 .0, tt)))
+  length-channels = let k = sized d s .1 .1 .1 in length-joined (64 ∷ 64 ∷ 64 ∷ []) (channelsOf d) (k .0, (k .1 .0, (k .1 .1 .0, tt)))
 
   length-levels : length (joined (levelsOf d)) ≡ 320
   unfolding total partsOf
-  length-levels = let k = sized d s .1 .1 .1 .1 in length-joined (64 ∷ 64 ∷ 64 ∷ 128 ∷ []) (levelsOf d) (k .0, (k .1 .0, (k .1 .1 .0, (refl, tt))))
+  length-levels = let k = sized d s .1 .1 .1 .1 .1 .1 in length-joined (64 ∷ 64 ∷ 64 ∷ 128 ∷ []) (levelsOf d) (k .0, (k .1 .0, (k .1 .1 .0, (refl, tt))))
 
-  fields-laid : a ≡ splice z 2064 (laid (headOf d)) → b ≡ splice a 2576 (laid (joined (channelsOf d))) → c ≡ splice b 4112 (laid (joined (levelsOf d)))
-      → e ≡ splice c 6672 (laid (joined (takenOf d))) → e ≡ splice z 2064 (laid (fieldsOf d ++ replicate 64 0))
+  fields-laid : n ≡ splice z 2064 (laid (joined (scalarsOf d))) → a ≡ splice n 2192 (laid (ownOf d)) → b ≡ splice a 2576 (laid (joined (channelsOf d)))
+      → c ≡ splice b 4112 (laid (joined (levelsOf d))) → e ≡ splice c 6672 (laid (joined (takenOf d))) → e ≡ splice z 2064 (laid (fieldsOf d ++ replicate 64 0))
   unfolding total
-  fields-laid f g h i =
-      let h0 = headOf d in
-      let h1 = joined (channelsOf d) in
-      let h2 = joined (levelsOf d) in
-      let h3 = joined (takenOf d) in
-      row-more z c e 2064 6672 (h0 ∷ h1 ∷ h2 ∷ []) h3 (64 ∷ 192 ∷ 320 ∷ []) (length-head d, (length-channels, (length-levels, tt))) refl
-      (row-more z b c 2064 4112 (h0 ∷ h1 ∷ []) h2 (64 ∷ 192 ∷ []) (length-head d, (length-channels, tt)) refl
-      (row-more z a b 2064 2576 (h0 ∷ []) h1 (64 ∷ []) (length-head d, tt) refl (row-first z a 2064 h0 f) g) h) i
+  fields-laid j f g h i =
+      let h0 = joined (scalarsOf d) in
+      let h1 = ownOf d in
+      let h2 = joined (channelsOf d) in
+      let h3 = joined (levelsOf d) in
+      let h4 = joined (takenOf d) in
+      row-more z c e 2064 6672 (h0 ∷ h1 ∷ h2 ∷ h3 ∷ []) h4 (16 ∷ 48 ∷ 192 ∷ 320 ∷ []) (length-scalars, (length-own, (length-channels, (length-levels, tt)))) refl
+      (row-more z b c 2064 4112 (h0 ∷ h1 ∷ h2 ∷ []) h3 (16 ∷ 48 ∷ 192 ∷ []) (length-scalars, (length-own, (length-channels, tt))) refl
+      (row-more z a b 2064 2576 (h0 ∷ h1 ∷ []) h2 (16 ∷ 48 ∷ []) (length-scalars, (length-own, tt)) refl
+      (row-more z n a 2064 2192 (h0 ∷ []) h1 (16 ∷ []) (length-scalars, tt) refl (row-first z n 2064 h0 j) f) g) h) i
       ∙ ap (λ l. splice z 2064 (laid l)) (rows d)
 
-  pub image-laid : length x ≡ 8720 → y ≡ splice x 0 (d .table) → z ≡ splice y 2048 (flagged (d .ignore)) → a ≡ splice z 2064 (laid (headOf d))
-      → b ≡ splice a 2576 (laid (joined (channelsOf d))) → c ≡ splice b 4112 (laid (joined (levelsOf d))) → e ≡ splice c 6672 (laid (joined (takenOf d)))
-      → e ≡ imageOf d
+  pub image-laid : length x ≡ 8720 → y ≡ splice x 0 (d .table) → z ≡ splice y 2048 (flagged (d .ignore)) → n ≡ splice z 2064 (laid (joined (scalarsOf d)))
+      → a ≡ splice n 2192 (laid (ownOf d)) → b ≡ splice a 2576 (laid (joined (channelsOf d))) → c ≡ splice b 4112 (laid (joined (levelsOf d)))
+      → e ≡ splice c 6672 (laid (joined (takenOf d))) → e ≡ imageOf d
   unfolding imageOf
-  image-laid l p q f g h i =
+  image-laid l p q j f g h i =
       let flag = flagged (d .ignore) in
       let ns = laid (fieldsOf d ++ replicate 64 0) in
       let front : z ≡ splice x 0 (d .table ++ flag) = q ∙ ap (λ m. splice m 2048 flag) p ∙ ap (λ n. splice (splice x 0 (d .table)) n flag) (sym (zero-add (length (d .table)) ∙ t)) ∙ splice-next x 0 (d .table) flag in
       let long : length (d .table ++ flag) ≡ 2064 = length-append (d .table) flag ∙ rw (t, length-flagged (d .ignore)) refl in
-      fields-laid f g h i
+      fields-laid j f g h i
       ∙ ap (λ m. splice m 2064 ns) front
       ∙ ap (λ n. splice (splice x 0 (d .table ++ flag)) n ns) (sym (zero-add (length (d .table ++ flag)) ∙ long))
       ∙ splice-next x 0 (d .table ++ flag) ns
@@ -165,9 +192,9 @@ module _ (d : Device) (s : Sound d) (t : length (d .table) ≡ 2048) (x y z a b 
 -- ---- bytes of another length are no image
 
 sized-in : (b : List ℕ) → Sized sizes (partsOf (deviceIn b))
-unfolding partsOf deviceIn controllerIn headOf
+unfolding partsOf ownOf deviceIn scalarsIn controllerIn
 sized-in b =
-    (refl, (length-numbers 64 b 64 64, (length-numbers 64 b 128 64, (length-numbers 32 b 192 64, (length-numbers 8 b 256 64, (length-numbers 8 b 320 64, (length-numbers 8 b 384 64, (refl, (length-numbers 64 b 576 192, tt)))))))))
+    (refl, (refl, (refl, (length-numbers 64 b 64 64, (length-numbers 64 b 128 64, (length-numbers 32 b 192 64, (length-numbers 8 b 256 64, (length-numbers 8 b 320 64, (length-numbers 8 b 384 64, (refl, (length-numbers 64 b 576 192, tt)))))))))))
 
 table-in : (b : List ℕ) → length (deviceIn b .table) ≡ 2048
 unfolding deviceIn
@@ -191,29 +218,18 @@ image-again b again d r p q e = e ∙ ap (λ l. alike l b) (q ∙ ap imageOf p)
 
 -- ---- a device read
 
-pub device-got : (b : List ℕ) {erq eei int err kick deferred deadline standing cr level : ℕ} {table busy majors taken pending : List ℕ} {k l m : Controller}
-    → erq ≡ numberIn 64 b 1 → eei ≡ numberIn 64 b 2 → int ≡ numberIn 64 b 3 → err ≡ numberIn 64 b 4 → kick ≡ numberIn 64 b 5 → deferred ≡ numberIn 64 b 6
-    → deadline ≡ numberIn 64 b 7 → standing ≡ numberIn 64 b 9 → table ≡ part b 0 2048 → busy ≡ numbersIn 64 b 64 64 → majors ≡ numbersIn 64 b 128 64
-    → taken ≡ numbersIn 64 b 576 192 → pending ≡ numbersIn 32 b 192 64 → k ≡ controllerIn b 0 → l ≡ controllerIn b 1 → m ≡ controllerIn b 2
-    → cr ≡ numberIn 32 b 0 → level ≡ numberIn 8 b 8
+pub device-got : (b : List ℕ) {scalars table busy majors taken pending : List ℕ} {k l m : Controller} → scalars ≡ scalarsIn scalarBits b 0 → table ≡ part b 0 2048
+    → busy ≡ numbersIn 64 b 64 64 → majors ≡ numbersIn 64 b 128 64 → taken ≡ numbersIn 64 b 576 192 → pending ≡ numbersIn 32 b 192 64
+    → k ≡ controllerIn b 0 → l ≡ controllerIn b 1 → m ≡ controllerIn b 2
     → _≡_ {A = Device} (record {
-      erq = erq;
-      eei = eei;
-      int = int;
-      err = err;
-      kick = kick;
-      deferred = deferred;
-      deadline = deadline;
-      standing = standing;
+      scalars = scalars;
       table = table;
       busy = busy;
       majors = majors;
       taken = taken;
       pending = pending;
       controllers = k ∷ l ∷ m ∷ [];
-      cr = cr;
-      level = level;
       ignore = eqb (getD b 2048 0) 1;
     }) (deviceIn b)
 unfolding deviceIn
-device-got b a c d e f g h i j k l m n o p q r s = rw (a, c, d, e, f, g, h, i, j, k, l, m, n, o, p, q, r, s) refl
+device-got b a c d e f g h i j = rw (a, c, d, e, f, g, h, i, j) refl

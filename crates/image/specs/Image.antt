@@ -6,6 +6,7 @@ use lib.Dec.{eqb}
 use lib.ListN.{getD, replicate}
 use Rattle.rules.specs.Bytes.{bytes, number, part}
 use Rattle.rules.specs.Fields.{fieldsOf}
+use Rattle.rules.specs.Scalars.{scalarBits}
 use Rattle.rules.specs.State.{Controller, Device}
 
 -- ---- a device laid down
@@ -33,6 +34,11 @@ unfoldable pub numbersIn : ℕ → List ℕ → ℕ → ℕ → List ℕ
 numbersIn bits b n zero = []
 numbersIn bits b n (suc k) = numberIn bits b n ∷ numbersIn bits b (suc n) k
 
+-- and from place n on one number of each of these bits
+unfoldable pub scalarsIn : List ℕ → List ℕ → ℕ → List ℕ
+scalarsIn [] b n = []
+scalarsIn (bits ∷ more) b n = numberIn bits b n ∷ scalarsIn more b (suc n)
+
 unfoldable pub controllerIn : List ℕ → ℕ → Controller
 controllerIn b c = record {
   masks = numberIn 64 b (16 + 4 * c);
@@ -44,22 +50,13 @@ controllerIn b c = record {
 
 unfoldable pub deviceIn : List ℕ → Device
 deviceIn b = record {
-  erq = numberIn 64 b 1;
-  eei = numberIn 64 b 2;
-  int = numberIn 64 b 3;
-  err = numberIn 64 b 4;
-  kick = numberIn 64 b 5;
-  deferred = numberIn 64 b 6;
-  deadline = numberIn 64 b 7;
-  standing = numberIn 64 b 9;
+  scalars = scalarsIn scalarBits b 0;
   table = part b 0 2048;
   busy = numbersIn 64 b 64 64;
   majors = numbersIn 64 b 128 64;
   taken = numbersIn 64 b 576 192;
   pending = numbersIn 32 b 192 64;
   controllers = controllerIn b 0 ∷ controllerIn b 1 ∷ controllerIn b 2 ∷ [];
-  cr = numberIn 32 b 0;
-  level = numberIn 8 b 8;
   ignore = eqb (getD b 2048 0) 1;
 }
 

@@ -6,10 +6,10 @@ ghost use mathlib.Core.Path.{_≡_};
 ghost use Prim.Native.Nat.{_+_, _*_, _≤_, _<_};
 ghost use lib.ListN.{length, getD};
 ghost use Rattle.rules.specs.Bytes.{splice, part};
-ghost use Rattle.rules.specs.Fields.{joined, headOf};
+ghost use Rattle.rules.specs.Fields.{joined, ownOf};
 ghost use Rattle.rules.specs.View.{viewController, view};
 ghost use Rattle.image.specs.Image.{laid, flagged, imageOf, numberIn, numbersIn, controllerIn, deviceIn, alike, isImage};
-ghost use Rattle.image.specs.Parts.{channelsOf, levelsOf, takenOf};
+ghost use Rattle.image.specs.Parts.{scalarsOf, channelsOf, levelsOf, takenOf};
 
 // How long an image is.
 pub const BYTES: usize = 8720;
@@ -182,38 +182,40 @@ fn alike(a: &[u8], b: &[u8]) -> bool
 
 // ---- a device
 
-// Fields 0 to 63: the scalars, and each controller's own four.
-fn put_head(image: &mut [u8], d: Device)
+// Fields 0 to 15: 0, and over the first of them the numbers that stand alone.
+fn put_scalars(image: &mut [u8], d: Device)
+    requires { ⌜ 2192 ≤ length (now image) ⌝ }
+    ensures { λ _. ⌜ now (image .exit) ≡ splice (now (image .entry)) 2064 (laid (joined (scalarsOf (view d)))) ⌝ }
+{
+    let scalars = d.scalars;
+    let listed = device::listed(scalars);
+    let none = [0u64; 16];
+    put_wides(image, 0, &none);
+    put_wides(image, 0, &listed);
+}
+
+// Fields 16 to 63: each controller's own four.
+fn put_own(image: &mut [u8], d: Device)
     requires { ⌜ 2576 ≤ length (now image) ⌝ }
-    ensures { λ _. ⌜ now (image .exit) ≡ splice (now (image .entry)) 2064 (laid (headOf (view d))) ⌝ }
+    ensures { λ _. ⌜ now (image .exit) ≡ splice (now (image .entry)) 2192 (laid (ownOf (view d))) ⌝ }
 {
     let a = device::controller_at(d, 0);
     let b = device::controller_at(d, 1);
     let c = device::controller_at(d, 2);
-    let mut head = [0u64; 64];
-    head[0] = d.cr as u64;
-    head[1] = d.erq;
-    head[2] = d.eei;
-    head[3] = d.int;
-    head[4] = d.err;
-    head[5] = d.kick;
-    head[6] = d.deferred;
-    head[7] = d.deadline;
-    head[8] = d.level as u64;
-    head[9] = d.standing;
-    head[16] = a.masks;
-    head[17] = a.forced;
-    head[18] = a.lines;
-    head[19] = a.config as u64;
-    head[20] = b.masks;
-    head[21] = b.forced;
-    head[22] = b.lines;
-    head[23] = b.config as u64;
-    head[24] = c.masks;
-    head[25] = c.forced;
-    head[26] = c.lines;
-    head[27] = c.config as u64;
-    put_wides(image, 0, &head);
+    let mut own = [0u64; 48];
+    own[0] = a.masks;
+    own[1] = a.forced;
+    own[2] = a.lines;
+    own[3] = a.config as u64;
+    own[4] = b.masks;
+    own[5] = b.forced;
+    own[6] = b.lines;
+    own[7] = b.config as u64;
+    own[8] = c.masks;
+    own[9] = c.forced;
+    own[10] = c.lines;
+    own[11] = c.config as u64;
+    put_wides(image, 16, &own);
 }
 
 // Fields 256 to 575: the level bytes of the three controllers, and 128 numbers that name no field.
@@ -263,7 +265,8 @@ pub fn put_device(image: &mut [u8], d: Device)
     let table = d.table;
     put_table(image, &table);
     put_flag(image, d.ignore_masks);
-    put_head(image, d);
+    put_scalars(image, d);
+    put_own(image, d);
     put_channels(image, d);
     put_levels(image, d);
     put_taken(image, d);
@@ -289,6 +292,9 @@ pub fn get_device(image: &[u8]) -> Device
     requires { ⌜ length (now image) ≡ 8720 ⌝ }
     ensures { λ r. ⌜ view r ≡ deviceIn (now (image .entry)) ⌝ }
 {
+    let mut first = [0u64; 16];
+    get_wides(image, 0, &mut first);
+    let scalars = device::from_list(&first);
     let mut table = [0u8; 2048];
     get_table(image, &mut table);
     let mut busy = [0u64; 64];
@@ -303,22 +309,13 @@ pub fn get_device(image: &[u8]) -> Device
     let b = get_controller(image, 1);
     let c = get_controller(image, 2);
     Device {
-        erq: wide_at(image, 1),
-        eei: wide_at(image, 2),
-        int: wide_at(image, 3),
-        err: wide_at(image, 4),
-        kick: wide_at(image, 5),
-        deferred: wide_at(image, 6),
-        deadline: wide_at(image, 7),
-        standing: wide_at(image, 9),
+        scalars,
         table,
         busy,
         majors,
         taken,
         pending,
         controllers: [a, b, c],
-        cr: count_at(image, 0),
-        level: byte_at(image, 8),
         ignore_masks: image[2048] == 1,
     }
 }

@@ -1,6 +1,6 @@
 -- The laws that the proofs of this crate cite, over plain variables: widths, room, and a record's bytes. Assumes nothing.
 use mathlib.Core.Bool.{Bool, true, false, not, _||_}
-use mathlib.Core.List.{List}
+use mathlib.Core.List.{List, _∷_, _++_}
 use mathlib.Core.Path.{_≡_, refl, sym, ap, _∙_}
 use Prim.Native.Nat.{ℕ, _+_, _-_, _≤_, _<_}
 use native.Mathlib.Numerals.{towards-suc}
@@ -12,7 +12,7 @@ use Rattle.rules.specs.Act.{window, table}
 use Rattle.rules.specs.Bytes.{bytes, splice}
 use Rattle.rules.specs.Carry.{legal, line}
 use Rattle.rules.proofs.BoolLaws.{or-either}
-use Rattle.rules.proofs.BytesLaws.{splice-cons, splice-comm, splice-append, length-bytes}
+use Rattle.rules.proofs.BytesLaws.{splice-comm, splice-append, length-bytes}
 use Rattle.words.specs.Widths.{MemoryWidth, TableWidth}
 
 -- ---- widths
@@ -34,20 +34,22 @@ memory-width w e = record { positive = bounds .0; most = bounds .1; one-of = e }
 pub table-width : (w : ℕ) → MemoryWidth w → TableWidth w
 table-width w h = record { positive = h .positive; most = omega arith; one-of = rw (h .one-of) }
 
--- ---- a record's bytes stored one after the other
+-- ---- a record's bytes stored, the place first
 
 pub record-laid : (j : List ℕ) (at kind width place value : ℕ)
-    → splice (splice (set (set (set (set j at 0x4A) (at + 1) 0x52) (at + 2) kind) (at + 3) width) (at + 4) (bytes 4 place)) (at + 8) (bytes 8 value) ≡ splice j at (line kind width place value)
-unfolding line
+    → set (set (set (set (splice (splice j (at + 4) (bytes 4 place)) (at + 8) (bytes 8 value)) (at + 3) width) (at + 2) kind) (at + 1) 0x52) at 0x4A ≡ splice j at (line kind width place value)
+unfolding line splice
 record-laid j at kind width place value =
     let P : List ℕ = bytes 4 place in
     let O : List ℕ = bytes 8 value in
-    let j₄ : List ℕ = set (set (set (set j at 0x4A) (at + 1) 0x52) (at + 2) kind) (at + 3) width in
     let e : at + 4 + length P ≡ at + 8 = omega (arith, length-bytes 4 place) in
-    splice-comm j₄ (at + 4) P (at + 8) O (omega (arith, e))
-    ∙ ap (λ (k : ℕ). splice (splice j₄ k O) (at + 4) P) (sym e)
-    ∙ sym (splice-append j₄ (at + 4) P O)
-    ∙ simp (towards-suc, splice-cons)
+    let both : splice (splice j (at + 4) P) (at + 8) O ≡ splice j (at + 4) (P ++ O) =
+    splice-comm j (at + 4) P (at + 8) O (omega (arith, e)) ∙ ap (λ (k : ℕ). splice (splice j k O) (at + 4) P) (sym e) ∙ sym (splice-append j (at + 4) P O) in
+    rw both (marked j at (P ++ O))
+  where
+    marked : (j : List ℕ) (at : ℕ) (rest : List ℕ)
+        → set (set (set (set (splice j (at + 4) rest) (at + 3) width) (at + 2) kind) (at + 1) 0x52) at 0x4A ≡ splice j at (0x4A ∷ 0x52 ∷ kind ∷ width ∷ rest)
+    marked j at rest = simp (towards-suc, splice)
 
 -- ---- room
 

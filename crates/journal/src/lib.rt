@@ -8,7 +8,7 @@ ghost use Prim.Native.Nat.{_+_, _-_, _/_, _≤_};
 ghost use lib.Dec.{leb};
 ghost use lib.ListN.{length, drop};
 ghost use Rattle.rules.specs.Act.{store, window as inWindow, table as inTable};
-ghost use Rattle.rules.specs.Bytes.{bytes, part, splice};
+ghost use Rattle.rules.specs.Bytes.{part, splice};
 ghost use Rattle.rules.specs.Carry.{legal, line};
 ghost use Rattle.act.specs.Worlds.{OnTable};
 ghost use Rattle.words.specs.Widths.{TableWidth};
@@ -21,12 +21,13 @@ pub fn put_record(journal: &mut [u8], at: usize, kind: u8, width: u8, place: u32
     requires { ⌜ at + 16 ≤ length (now journal) ⌝ }
     ensures { λ _. ⌜ now (journal .exit) ≡ splice (now (journal .entry)) at (line kind width place value) ⌝ }
 {
-    journal[at] = 0x4A;
-    journal[at + 1] = 0x52;
-    journal[at + 2] = kind;
-    journal[at + 3] = width;
+    // in an order that was chosen by counting instructions: docs/DECISIONS.md
     words::put4(journal, at + 4, place);
     words::put8(journal, at + 8, value);
+    journal[at + 3] = width;
+    journal[at + 2] = kind;
+    journal[at + 1] = 0x52;
+    journal[at] = 0x4A;
 }
 
 // Whether one more record fits behind `at`: every store asks here, and nowhere else.
@@ -65,13 +66,8 @@ pub fn store_table(
     let end = at + 16;
     put_record(journal, at, 1, width as u8, place as u32, old);
     words::put_width(table, place, width, value);
-    Step::Going(Flow {
-        cr: c.cr,
-        erq: c.erq,
-        int: c.int,
-        kick: c.kick,
-        at: end,
-    })
+    let scalars = c.scalars;
+    Step::Going(Flow { scalars, at: end })
 }
 
 // ---- undoing

@@ -18,7 +18,8 @@ ghost use mathlib.Core.List.{[], _++_};
 ghost use mathlib.Core.Path.{_≡_};
 ghost use Prim.Native.Nat.{_+_, _*_, _%_, _^_, _<_};
 ghost use lib.ListN.{length};
-ghost use Rattle.rules.specs.Act.{change, when, INT, ERQ, KICK, MAJORS};
+ghost use Rattle.rules.specs.Act.{change, when, MAJORS};
+ghost use Rattle.rules.specs.Scalars.{INT, ERQ, KICK};
 ghost use Rattle.rules.specs.Bytes.{bytes, number, part};
 ghost use Rattle.rules.specs.Minor.{tcdOf, tcdBytes, storeWords, storeWhole, link, linkTo, gather, replaced, loadNext, wound, reload, flags, majorEnd, started, minorStores, halfway, minorEnd};
 ghost use Rattle.rules.specs.Words.{has, gain, lose, countOf};
@@ -57,12 +58,10 @@ pub fn raise_int(s: Step, on: bool, ch: usize) -> Step
         return s;
     };
     if on {
-        let int = words::gain_bit(c.int, ch);
+        let mut n = c.scalars;
+        n.int = words::gain_bit(n.int, ch);
         return Step::Going(Flow {
-            cr: c.cr,
-            erq: c.erq,
-            int,
-            kick: c.kick,
+            scalars: n,
             at: c.at,
         });
     }
@@ -77,12 +76,10 @@ pub fn raise_kick(s: Step, on: bool, ch: usize) -> Step
         return s;
     };
     if on {
-        let kick = words::gain_bit(c.kick, ch);
+        let mut n = c.scalars;
+        n.kick = words::gain_bit(n.kick, ch);
         return Step::Going(Flow {
-            cr: c.cr,
-            erq: c.erq,
-            int: c.int,
-            kick,
+            scalars: n,
             at: c.at,
         });
     }
@@ -97,12 +94,10 @@ pub fn lower_erq(s: Step, on: bool, ch: usize) -> Step
         return s;
     };
     if on {
-        let erq = words::lose_bit(c.erq, ch);
+        let mut n = c.scalars;
+        n.erq = words::lose_bit(n.erq, ch);
         return Step::Going(Flow {
-            cr: c.cr,
-            erq,
-            int: c.int,
-            kick: c.kick,
+            scalars: n,
             at: c.at,
         });
     }

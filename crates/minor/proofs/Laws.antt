@@ -45,17 +45,17 @@ module _ (t : Tcd) (n : ℕ) {from to reads : ℕ} {step : Steps} (p : from ≡ 
 
 -- the scalars, with another end of the journal
 abbrev pub ended : Flow → ℕ → Flow
-ended c e = record { cr = c .cr; erq = c .erq; int = c .int; kick = c .kick; at = e }
+ended c e = record { scalars = c .scalars; at = e }
 
 module _ (base : ℕ) (lent : Lent) (d : Device) (c : Flow) (w j t m : List ℕ) (ch : ℕ) {x : Tcd} (read : x ≡ tcdOf (part t (32 * ch) 32)) (fits : 32 * ch + 32 ≤ length t) where
   abbrev start : World
   start = world d c w j t m
 
   abbrev moving : Act (ℕ × ℕ)
-  moving = transfer x (minorBytes (c .cr) x)
+  moving = transfer x (minorBytes (c .scalars .cr) x)
 
   abbrev finishing : ℕ × ℕ → Act (Unit {0})
-  finishing p = minorEnd ch x (offset (sourceOffset (c .cr) x) x (p .0)) (offset (destOffset (c .cr) x) x (p .1))
+  finishing p = minorEnd ch x (offset (sourceOffset (c .scalars .cr) x) x (p .0)) (offset (destOffset (c .scalars .cr) x) x (p .1))
 
   abbrev rest : ℕ × ℕ → Act Bool
   rest p = finishing p >> done true
@@ -84,7 +84,7 @@ module _ (base : ℕ) (lent : Lent) (d : Device) (c : Flow) (w j t m : List ℕ)
     ran (Step.Going f) w″ j″ t″ m″ = refl
     ran (Step.Refused k f) w″ j″ t″ m″ = refl
 
-    pub pass-to : {s₀ d₀ e s₁ d₁ : ℕ} → r ≡ Moved.To s₀ d₀ e → s₁ ≡ offset (sourceOffset (c .cr) x) x s₀ → d₁ ≡ offset (destOffset (c .cr) x) x d₀
+    pub pass-to : {s₀ d₀ e s₁ d₁ : ℕ} → r ≡ Moved.To s₀ d₀ e → s₁ ≡ offset (sourceOffset (c .scalars .cr) x) x s₀ → d₁ ≡ offset (destOffset (c .scalars .cr) x) x d₀
         → (q : Step) (w″ j″ t″ m″ : List ℕ) → told q d w″ j″ t″ m″ ≡ on base lent (minorEnd ch x s₁ d₁) (told (Step.Going (ended c e)) d w′ j′ t m)
         → passed (Ran q) c d w″ j″ t″ m″ ≡ go base lent (pass ch) start
     unfolding moved andThen told on
@@ -94,5 +94,5 @@ module _ (base : ℕ) (lent : Lent) (d : Device) (c : Flow) (w j t m : List ℕ)
         ∙ ap (on base lent (done true)) k
         ∙ sym (on-then base lent (minorEnd ch x s₁ d₁) (done true) o)
         ∙ ap (λ (y : ℕ). on base lent (minorEnd ch x y d₁ >> done true) o) p₁
-        ∙ ap (λ (y : ℕ). on base lent (minorEnd ch x (offset (sourceOffset (c .cr) x) x s₀) y >> done true) o) p₂
+        ∙ ap (λ (y : ℕ). on base lent (minorEnd ch x (offset (sourceOffset (c .scalars .cr) x) x s₀) y >> done true) o) p₂
         ∙ working (Moved.To s₀ d₀ e) h

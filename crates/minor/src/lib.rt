@@ -71,22 +71,17 @@ fn transfer(
 
 // The scalars, with another end of the journal.
 fn with_end(c: Flow, e: usize) -> Flow
-    ensures { λ r. ⌜ r ≡ record { cr = c .cr; erq = c .erq; int = c .int; kick = c .kick; at = e } ⌝ }
+    ensures { λ r. ⌜ r ≡ record { scalars = c .scalars; at = e } ⌝ }
 {
-    Flow {
-        cr: c.cr,
-        erq: c.erq,
-        int: c.int,
-        kick: c.kick,
-        at: e,
-    }
+    let scalars = c.scalars;
+    Flow { scalars, at: e }
 }
 
-// One minor loop. (The window stands before its base: the other order costs a run of single bytes 8 % in instructions, docs/DECISIONS.md.)
+// One minor loop.
 pub fn dma_minor(
     c: Flow,
-    window: &mut [u8],
     base: u32,
+    window: &mut [u8],
     table: &mut [u8; 2048],
     majors: &mut [u64; 64],
     ch: usize,
@@ -100,12 +95,13 @@ pub fn dma_minor(
     if words::count_of(t.citer) == 0 {
         return Passed::Idle;
     }
-    let n = sums::minor_bytes(c.cr, t);
+    let cr = c.scalars.cr;
+    let n = sums::minor_bytes(cr, t);
     match transfer(base, window, t, n, staging, journal, c.at) {
         Moved::Not(r, e) => Passed::Ran(Step::Refused(r, with_end(c, e))),
         Moved::To(s, d, e) => {
-            let s1 = sums::moved_on(sums::sources(c.cr, t), t, s);
-            let d1 = sums::moved_on(sums::dests(c.cr, t), t, d);
+            let s1 = sums::moved_on(sums::sources(cr, t), t, s);
+            let d1 = sums::moved_on(sums::dests(cr, t), t, d);
             let next = Step::Going(with_end(c, e));
             Passed::Ran(major_end::dma_minor_done(
                 next,

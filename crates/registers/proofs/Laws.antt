@@ -10,7 +10,7 @@ use lib.Dec.{eqb, ltb}
 use lib.ListN.{length, take, drop}
 use Rattle.rules.specs.Act.{Act}
 use Rattle.rules.specs.Calls.{Asked, write, actOf, badSize, badJournal, isNone, orNothing, check, wrong, wrongRead, levelled, Told, told, toldActed, toldAfter, stagingAfter, toldReading, toldRead, refusalNumber, orZero, worldOf, after, afterRead}
-use Rattle.rules.specs.Carry.{ok, leave, perform, lending}
+use Rattle.rules.specs.Carry.{Out, ok, go, leave, perform, Lent, lending}
 use Rattle.rules.specs.Registers.{within, inBlocks, inTable, blockOf, offsetOf, dmaRead, dmaWrite, readIn, readAt, writeIn, writeAt, controllerWrite, pastTable, pastWord}
 use Rattle.rules.specs.declared.Acted.{Acted}
 use Rattle.rules.specs.State.{Device}
@@ -24,6 +24,8 @@ use Rattle.rules.specs.declared.Refusal.the-variants as Refusal
 use Rattle.rules.specs.declared.Verdict.the-variants as Verdict
 use Rattle.rules.proofs.BoolLaws.{and-left, and-both}
 use Rattle.act.specs.Does.{Answers}
+use Rattle.act.specs.Worlds.{on, told as step-told}
+use Rattle.act.specs.declared.Step.the-variants.{Going}
 use Rattle.intc.specs.Writes.{InWord}
 use Rattle.masks.proofs.Ranges.{within-true}
 use Rattle.dma_read.specs.Access.{Fair}
@@ -192,6 +194,12 @@ module _ (address size v base : ℕ) (d : Device) (w staging j : List ℕ) (used
       unfolding stagingAfter wrong check actOf writeAt writeIn offsetOf pastTable pastWord pastPart
       write-controller-after c z =
           rw (← asked-after (write address size v) base d w staging j used refl, s, b, z, ne-eqb (suc c) 0 (λ e. omega arith), lt-ltb 0 (suc c) (omega arith))
+
+-- a DMA write begins with a device's numbers and table, which are put back
+pub dma-goes : (base : ℕ) (lent : Lent) (act : Act (Unit {0})) (d : HeldDevice) (w j : List ℕ) (at : ℕ) {r o : Out (Unit {0})}
+    → r ≡ o → o ≡ on base lent act (step-told (Going (record { scalars = d .scalars; at = at })) (view d) w j (d .table) (d .majors)) → r ≡ go base lent act (worldOf (view d) w j at)
+unfolding on step-told
+dma-goes base lent act d w j at e f = e ∙ f
 
 -- ---- read, by the block
 

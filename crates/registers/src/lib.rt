@@ -1,10 +1,12 @@
 // The calls on registers and inputs: read, write, inputs, pending, acknowledge. A device goes in by value and comes back with the answer;
 // what is wrong with the arguments is tested in the order of document 01's numbers, before anything is done. What each act touches is
 // compared at its end: the fields of numbers 0 to 27 always, and of the arrays only those that the call can change.
+use act::Flow;
+use act::Step;
 use act::Walk;
+use acting::Reached;
 use acting::refused;
 use closing::Touched;
-use dma_commands::Reached;
 use intc::Cell;
 use rules::Acknowledged;
 use rules::Acted;
@@ -132,8 +134,11 @@ fn write_dma(d: Device, off: u32, size: u32, value: u32, journal: &mut [u8], use
         levels: false,
         taken: false,
     };
-    let s = dma::edma_write(d, off, size, value, journal, used);
-    acting::settle(d, s, touched, journal, used)
+    let scalars = d.scalars;
+    let mut table = d.table;
+    let begun = Step::Going(Flow { scalars, at: used });
+    let s = dma::edma_write(begun, &mut table, &d.pending, off, size, value, journal);
+    acting::settle(d, acting::put_back(d, s, table), touched, journal, used)
 }
 
 // The end of an act that came to `e` without a store.

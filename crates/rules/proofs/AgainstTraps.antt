@@ -8,11 +8,12 @@ use lib.Count.{trailingZeros}
 use lib.ListN.{replicate}
 use Rattle.rules.specs.State.{Device}
 use Rattle.rules.specs.declared.Tcd.{Tcd}
-use Rattle.rules.specs.Act.{acts, KICK}
+use Rattle.rules.specs.Act.{acts}
+use Rattle.rules.specs.Scalars.{KICK}
 use Rattle.rules.specs.Bytes.{bytesRules, part}
 use Rattle.rules.specs.Calls.{calls, fresh, run, after, Told, told, numberTold}
 use Rattle.rules.specs.Carry.{carry}
-use Rattle.rules.specs.Fields.{fields, withField}
+use Rattle.rules.specs.Fields.{holds, fields, withField}
 use Rattle.rules.specs.Lines.{linesRules}
 use Rattle.rules.specs.Minor.{minor, tcdBytes}
 use Rattle.rules.specs.Run.{runs}
@@ -41,7 +42,7 @@ kicked t = withField KICK 1 (withTable (fresh false) (tcdBytes t ++ replicate 20
 
 -- number, KICK and the first 64 bytes of the table of an outcome
 unfoldable pub tableOf : Told → List (List ℕ)
-tableOf (told n heard d w s j u) = (n ∷ d .kick ∷ []) ∷ part (d .table) 0 32 ∷ part (d .table) 32 32 ∷ []
+tableOf (told n heard d w s j u) = (n ∷ holds KICK d ∷ []) ∷ part (d .table) 0 32 ∷ part (d .table) 32 32 ∷ []
 
 unfoldable pub next : List ℕ
 next = 0x5A ∷ 0x5B ∷ 0x5C ∷ 0x5D ∷ replicate 28 0

@@ -6,12 +6,14 @@ use mathlib.Core.Path.{_≡_, refl, sym, ap, ap₂, _∙_, subst}
 use Prim.Native.Nat.{ℕ, _+_, _-_, _*_, _^_, _≤_, _<_}
 use native.Mathlib.Nat.{lt-of-lt-of-le, lt-of-not-le, zero-lt-suc, pow-le-pow-right}
 use native.Mathlib.Omega.{arith}
-use borrow.Author.Tests.{eq-eqb, le-ltb, ltb-true, leb-true, le-leb, ne-eqb, eqb-true}
+use borrow.Author.Tests.{eq-eqb, ltb-true, leb-true, le-leb, ne-eqb, eqb-true}
 use lib.Dec.{eqb, leb, lit<, lit≤}
 use lib.ListN.{take, drop, length, replicate, length-append}
 use lib.Pow.{pow-mono}
 use lib.Seq.{take-at, drop-at}
-use Rattle.rules.specs.Act.{Space, window, table, Field, CR, ERQ, EEI, INT, ERR, KICK, DEFERRED, DEADLINE, LEVEL, STANDING, MASKS, FORCED, LINES, CONFIG, BUSY, MAJORS, PENDING, SOURCE, TAKEN}
+use Rattle.rules.specs.Act.{Space, window, table, Field, SCALAR, MASKS, FORCED, LINES, CONFIG, BUSY, MAJORS, PENDING, SOURCE, TAKEN}
+use Rattle.rules.proofs.Numbers.{at-none}
+use Rattle.rules.proofs.ScalarLaws.{scalar-bits}
 use Rattle.rules.specs.Bytes.{bytes, part}
 use Rattle.rules.specs.Fields.{bitsOf, fieldAt, fitsSome}
 use Rattle.rules.specs.Carry.{Machine, World, Rec, stoodAt, stoodIn, made, unmade, there, legal, line, kindOf, lineOf, linesOf, endLine, undo}
@@ -37,16 +39,7 @@ legal-width table w =
 
 bits-le : (f : Field) → bitsOf f ≤ 64
 unfolding bitsOf
-bits-le CR = lit≤ tt
-bits-le ERQ = lit≤ tt
-bits-le EEI = lit≤ tt
-bits-le INT = lit≤ tt
-bits-le ERR = lit≤ tt
-bits-le KICK = lit≤ tt
-bits-le DEFERRED = lit≤ tt
-bits-le DEADLINE = lit≤ tt
-bits-le LEVEL = lit≤ tt
-bits-le STANDING = lit≤ tt
+bits-le (SCALAR i) = leb-true _ 64 (scalar-bits i .1)
 bits-le (MASKS c) = lit≤ tt
 bits-le (FORCED c) = lit≤ tt
 bits-le (LINES c) = lit≤ tt
@@ -61,14 +54,8 @@ fits-below : (o : Option Field) (v : ℕ) → fitsSome o v ≡ true → v < 256 
 fits-below none v e = absurd (false≢true e)
 fits-below (some f) v e = lt-of-lt-of-le (ltb-true v (2 ^ bitsOf f) e) (pow-mono (bits-le f))
 
-no-field : (n : ℕ) → 768 ≤ n → fieldAt n ≡ none
-unfolding fieldAt
-no-field n h =
-    rw (le-ltb n 10 (omega arith), le-ltb n 16 (omega arith), le-ltb n 28 (omega arith), le-ltb n 64 (omega arith), le-ltb n 128 (omega arith), le-ltb n 192 (omega arith), le-ltb n 256 (omega arith), le-ltb n 448 (omega arith), le-ltb n 576 (omega arith), le-ltb n 768 h)
-    refl
-
 number-below : (n v : ℕ) → fitsSome (fieldAt n) v ≡ true → n < 768
-number-below n v e = lt-of-not-le (λ h. false≢true (subst (λ o. fitsSome o v ≡ true) (no-field n h) e))
+number-below n v e = lt-of-not-le (λ h. false≢true (subst (λ o. fitsSome o v ≡ true) (at-none n h) e))
 
 -- ---- one record
 

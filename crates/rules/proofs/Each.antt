@@ -13,7 +13,7 @@ use Rattle.rules.specs.declared.Device.{Device as HeldDevice}
 use Rattle.rules.specs.Act.{Act, Done, Endless, Stage, Fetch, Store, Ask, Put, Look, Space, window, table, Field, Setting, stage, fetch, store, ask, put, change, look, when}
 use Rattle.rules.specs.Act as acts
 use Rattle.rules.specs.Bytes.{bytes, splice}
-use Rattle.rules.specs.Fields.{bitsOf, holds, withField, settingOf, headOf, partsOf}
+use Rattle.rules.specs.Fields.{bitsOf, holds, withField, settingOf, ownOf, partsOf}
 use Rattle.rules.specs.With.{withTable}
 use Rattle.rules.specs.Carry.{Machine, World, no, bytesOf, withBytesOf, withDevice, indexOf, there, legal, fetched, stored, recorded, go, Lent}
 use Rattle.rules.proofs.BytesLaws.{length-part, length-splice, bytes-bytes, bytes-splice}
@@ -114,7 +114,7 @@ pub typed-proper : (d : HeldDevice) → Typed d → Proper (view d)
 typed-proper d t = record { sound = sound d t; size = table-size d t }
 
 pub proper-table : (i n v : ℕ) (d : Device) → Proper d → Proper (withTable d (splice (d .table) i (bytes n v)))
-unfolding headOf partsOf
+unfolding ownOf partsOf
 proper-table i n v d p = record {
   sound = record {
     three = p .sound .three;

@@ -9,7 +9,8 @@ use lib.Bits.{bitAnd, bitOr}
 use lib.Dec.{eqb, ltb}
 use lib.ListN.{length, length-drop}
 use Rattle.rules.specs.State.{Device}
-use Rattle.rules.specs.Act.{Act, done, nothing, ask, put, change, when, _>>=_, _>>_, Field, KICK, DEFERRED, DEADLINE, BUSY, MAJORS}
+use Rattle.rules.specs.Act.{Act, done, nothing, ask, put, change, when, _>>=_, _>>_, Field, BUSY, MAJORS}
+use Rattle.rules.specs.Scalars.{KICK, DEFERRED, DEADLINE}
 use Rattle.rules.specs.Carry.{World, go, Lent}
 use Rattle.rules.specs.Fields.{bitsOf, holds}
 use Rattle.rules.specs.Words.{has, gain, lose, lowest}

@@ -3,28 +3,29 @@ use mathlib.Core.Bool.{Bool, true, _&&_}
 use mathlib.Core.List.{List, [], _∷_}
 use mathlib.Core.Option.{Option, none, some}
 use mathlib.Core.Path.{_≡_, refl, sym, ap, _∙_, subst, subst⁻¹}
-use Prim.Native.Nat.{ℕ, zero, suc, _+_, _^_, _<_}
-use native.Mathlib.Nat.{not-suc-le-zero}
+use Prim.Native.Nat.{ℕ, zero, suc, _+_, _-_, _^_, _<_}
+use native.Mathlib.Nat.{not-suc-le-zero, zero-add}
 use native.Mathlib.Omega.{arith}
 use borrow.Author.Tests.{eqb-true, ltb-true}
 use lib.Dec.{eqb, ltb}
 use lib.ListN.{getD, set, length, replicate, getD-replicate, length-set}
 use Rattle.rules.specs.State.{Controller, Device}
-use Rattle.rules.specs.Act.{Field, CR, ERQ, EEI, INT, ERR, KICK, DEFERRED, DEADLINE, LEVEL, STANDING, MASKS, FORCED, LINES, CONFIG, BUSY, MAJORS, PENDING, SOURCE, TAKEN}
+use Rattle.rules.specs.Act.{Field, SCALAR, MASKS, FORCED, LINES, CONFIG, BUSY, MAJORS, PENDING, SOURCE, TAKEN}
+use Rattle.rules.specs.Scalars.{scalarBits}
 use Rattle.rules.specs.Bytes.{Bytes}
 use Rattle.rules.specs.With.{withControllers, withMasks, withForced, withLines, withConfig, withLevels}
-use Rattle.rules.specs.Fields.{joined, controller, headOf, partsOf, fieldsOf, numberOf, bitsOf, fieldAt, ofController, holds, withField}
+use Rattle.rules.specs.Fields.{joined, controller, ownOf, partsOf, fieldsOf, numberOf, bitsOf, fieldAt, ofController, holds, withField}
 use Rattle.rules.proofs.BoolLaws.{and-left, and-right}
-use Rattle.rules.proofs.PartLaws.{start, Sized, set-part, get-part, Within, Fitting, setIn, fitting-set, fitting-joined, fitting-sized, fitting-get}
+use Rattle.rules.proofs.PartLaws.{any-default, start, Sized, set-part, get-part, Within, Fitting, setIn, fitting-set, fitting-joined, fitting-sized, fitting-get}
 
 -- ---- the parts of a device: their sizes, and the bits of each element; 0 where there is no such field
 
 abbrev pub sizes : List ℕ
-sizes = 64 ∷ 64 ∷ 64 ∷ 64 ∷ 64 ∷ 64 ∷ 64 ∷ 128 ∷ 192 ∷ []
+sizes = length scalarBits ∷ (16 - length scalarBits) ∷ 48 ∷ 64 ∷ 64 ∷ 64 ∷ 64 ∷ 64 ∷ 64 ∷ 128 ∷ 192 ∷ []
 
 unfoldable pub bitParts : List (List ℕ)
 bitParts =
-    (32 ∷ 64 ∷ 64 ∷ 64 ∷ 64 ∷ 64 ∷ 64 ∷ 64 ∷ 8 ∷ 64 ∷ 0 ∷ 0 ∷ 0 ∷ 0 ∷ 0 ∷ 0 ∷ 64 ∷ 64 ∷ 64 ∷ 16 ∷ 64 ∷ 64 ∷ 64 ∷ 16 ∷ 64 ∷ 64 ∷ 64 ∷ 16 ∷ replicate 36 0)
+    scalarBits ∷ replicate (16 - length scalarBits) 0 ∷ (64 ∷ 64 ∷ 64 ∷ 16 ∷ 64 ∷ 64 ∷ 64 ∷ 16 ∷ 64 ∷ 64 ∷ 64 ∷ 16 ∷ replicate 36 0)
     ∷ replicate 64 64 ∷ replicate 64 64 ∷ replicate 64 32 ∷ replicate 64 8 ∷ replicate 64 8 ∷ replicate 64 8 ∷ replicate 128 0 ∷ replicate 192 64 ∷ []
 
 unfoldable pub fieldBits : List ℕ
@@ -42,48 +43,39 @@ sized d s = (unfold bitParts in fitting-sized bitParts (partsOf d) (s .fitting))
 -- each controller has 64 level bytes
 pub levels-long : (d : Device) → Sound d → (c : ℕ) → c < 3 → length (controller (d .controllers) c .levels) ≡ 64
 unfolding partsOf
-levels-long d s zero h = sized d s .1 .1 .1 .1 .0
-levels-long d s (suc zero) h = sized d s .1 .1 .1 .1 .1 .0
-levels-long d s (suc (suc zero)) h = sized d s .1 .1 .1 .1 .1 .1 .0
+levels-long d s zero h = sized d s .1 .1 .1 .1 .1 .1 .0
+levels-long d s (suc zero) h = sized d s .1 .1 .1 .1 .1 .1 .1 .0
+levels-long d s (suc (suc zero)) h = sized d s .1 .1 .1 .1 .1 .1 .1 .1 .0
 levels-long d s (suc (suc (suc c))) h = absurd (omega arith)
 
 pub within : (d : Device) → Sound d → Within fieldBits (fieldsOf d)
 unfolding fieldBits fieldsOf
 within d s = fitting-joined bitParts (partsOf d) (s .fitting)
 
--- ---- where a field is: its part, and its place there. Part 9: nowhere
+-- ---- where a field is: its part, and its place there. Part 11: nowhere
 abbrev own : ℕ → ℕ → ℕ × ℕ
-own zero k = (0, 16 + k)
-own (suc zero) k = (0, 20 + k)
-own (suc (suc zero)) k = (0, 24 + k)
-own (suc (suc (suc c))) k = (9, 0)
+own zero k = (2, k)
+own (suc zero) k = (2, 4 + k)
+own (suc (suc zero)) k = (2, 8 + k)
+own (suc (suc (suc c))) k = (11, 0)
 
 abbrev levelsAt : ℕ → ℕ → ℕ × ℕ
-levelsAt zero s = (4, s)
-levelsAt (suc zero) s = (5, s)
-levelsAt (suc (suc zero)) s = (6, s)
-levelsAt (suc (suc (suc c))) s = (9, 0)
+levelsAt zero s = (6, s)
+levelsAt (suc zero) s = (7, s)
+levelsAt (suc (suc zero)) s = (8, s)
+levelsAt (suc (suc (suc c))) s = (11, 0)
 
 unfoldable pub spot : Field → ℕ × ℕ
-spot CR = (0, 0)
-spot ERQ = (0, 1)
-spot EEI = (0, 2)
-spot INT = (0, 3)
-spot ERR = (0, 4)
-spot KICK = (0, 5)
-spot DEFERRED = (0, 6)
-spot DEADLINE = (0, 7)
-spot LEVEL = (0, 8)
-spot STANDING = (0, 9)
+spot (SCALAR i) = (0, i)
 spot (MASKS c) = own c 0
 spot (FORCED c) = own c 1
 spot (LINES c) = own c 2
 spot (CONFIG c) = own c 3
-spot (BUSY ch) = (1, ch)
-spot (MAJORS ch) = (2, ch)
-spot (PENDING ch) = (3, ch)
+spot (BUSY ch) = (3, ch)
+spot (MAJORS ch) = (4, ch)
+spot (PENDING ch) = (5, ch)
 spot (SOURCE c s) = levelsAt c s
-spot (TAKEN i) = (8, i)
+spot (TAKEN i) = (10, i)
 
 -- there is such a field: a channel below 64, a controller below 3, a source below 64, a vector from 64 to 255
 abbrev pub Real : Field → Type 0
@@ -92,16 +84,7 @@ Real f = spot f .1 < getD sizes (spot f .0) 0
 -- its number says where it is
 pub spot-number : (f : Field) → Real f → start sizes (spot f .0) + spot f .1 ≡ numberOf f
 unfolding spot start numberOf
-spot-number CR h = refl
-spot-number ERQ h = refl
-spot-number EEI h = refl
-spot-number INT h = refl
-spot-number ERR h = refl
-spot-number KICK h = refl
-spot-number DEFERRED h = refl
-spot-number DEADLINE h = refl
-spot-number LEVEL h = refl
-spot-number STANDING h = refl
+spot-number (SCALAR i) h = zero-add i
 spot-number (MASKS zero) h = refl
 spot-number (MASKS (suc zero)) h = refl
 spot-number (MASKS (suc (suc zero))) h = refl
@@ -130,16 +113,7 @@ spot-number (TAKEN i) h = omega arith
 -- a field has its spot's bits
 spot-bits : (f : Field) → spot f .1 < length (getD bitParts (spot f .0) []) → getD (getD bitParts (spot f .0) []) (spot f .1) 0 ≡ bitsOf f
 unfolding spot bitParts bitsOf
-spot-bits CR h = refl
-spot-bits ERQ h = refl
-spot-bits EEI h = refl
-spot-bits INT h = refl
-spot-bits ERR h = refl
-spot-bits KICK h = refl
-spot-bits DEFERRED h = refl
-spot-bits DEADLINE h = refl
-spot-bits LEVEL h = refl
-spot-bits STANDING h = refl
+spot-bits (SCALAR i) h = any-default scalarBits i 0 64 h
 spot-bits (MASKS zero) h = refl
 spot-bits (MASKS (suc zero)) h = refl
 spot-bits (MASKS (suc (suc zero))) h = refl
@@ -182,35 +156,35 @@ abbrev InParts : Device → ℕ → (Controller → Controller) → ℕ × ℕ �
 InParts d c g s v cs = partsOf (withControllers d (set cs c (g (controller cs c)))) ≡ setIn (partsOf (withControllers d cs)) s v
 
 masks-put : (d : Device) (c v : ℕ) (x y z : Controller) → InParts d c (λ k. withMasks k v) (own c 0) v (x ∷ y ∷ z ∷ [])
-unfolding partsOf headOf
+unfolding partsOf ownOf
 masks-put d zero v x y z = refl
 masks-put d (suc zero) v x y z = refl
 masks-put d (suc (suc zero)) v x y z = refl
 masks-put d (suc (suc (suc c))) v x y z = refl
 
 forced-put : (d : Device) (c v : ℕ) (x y z : Controller) → InParts d c (λ k. withForced k v) (own c 1) v (x ∷ y ∷ z ∷ [])
-unfolding partsOf headOf
+unfolding partsOf ownOf
 forced-put d zero v x y z = refl
 forced-put d (suc zero) v x y z = refl
 forced-put d (suc (suc zero)) v x y z = refl
 forced-put d (suc (suc (suc c))) v x y z = refl
 
 lines-put : (d : Device) (c v : ℕ) (x y z : Controller) → InParts d c (λ k. withLines k v) (own c 2) v (x ∷ y ∷ z ∷ [])
-unfolding partsOf headOf
+unfolding partsOf ownOf
 lines-put d zero v x y z = refl
 lines-put d (suc zero) v x y z = refl
 lines-put d (suc (suc zero)) v x y z = refl
 lines-put d (suc (suc (suc c))) v x y z = refl
 
 config-put : (d : Device) (c v : ℕ) (x y z : Controller) → InParts d c (λ k. withConfig k v) (own c 3) v (x ∷ y ∷ z ∷ [])
-unfolding partsOf headOf
+unfolding partsOf ownOf
 config-put d zero v x y z = refl
 config-put d (suc zero) v x y z = refl
 config-put d (suc (suc zero)) v x y z = refl
 config-put d (suc (suc (suc c))) v x y z = refl
 
 levels-put : (d : Device) (c s v : ℕ) (x y z : Controller) → InParts d c (λ k. withLevels k (set (k .levels) s v)) (levelsAt c s) v (x ∷ y ∷ z ∷ [])
-unfolding partsOf headOf
+unfolding partsOf ownOf
 levels-put d zero s v x y z = refl
 levels-put d (suc zero) s v x y z = refl
 levels-put d (suc (suc zero)) s v x y z = refl
@@ -225,17 +199,8 @@ pub record PutAt (d e : Device) (s : ℕ × ℕ) (v : ℕ) : Type 0 where
 
 -- the one law of each field
 pub put-law : (f : Field) (v : ℕ) (d : Device) → length (d .controllers) ≡ 3 → PutAt d (withField f v d) (spot f) v
-unfolding spot partsOf headOf
-put-law CR v d h = record { three = h; table = refl; ignore = refl; parts = refl }
-put-law ERQ v d h = record { three = h; table = refl; ignore = refl; parts = refl }
-put-law EEI v d h = record { three = h; table = refl; ignore = refl; parts = refl }
-put-law INT v d h = record { three = h; table = refl; ignore = refl; parts = refl }
-put-law ERR v d h = record { three = h; table = refl; ignore = refl; parts = refl }
-put-law KICK v d h = record { three = h; table = refl; ignore = refl; parts = refl }
-put-law DEFERRED v d h = record { three = h; table = refl; ignore = refl; parts = refl }
-put-law DEADLINE v d h = record { three = h; table = refl; ignore = refl; parts = refl }
-put-law LEVEL v d h = record { three = h; table = refl; ignore = refl; parts = refl }
-put-law STANDING v d h = record { three = h; table = refl; ignore = refl; parts = refl }
+unfolding spot partsOf ownOf
+put-law (SCALAR i) v d h = record { three = h; table = refl; ignore = refl; parts = refl }
 put-law (MASKS c) v d h = record {
   three = length-set (d .controllers) c _ ∙ h;
   table = refl;
@@ -294,17 +259,8 @@ module _ (f : Field) (v : ℕ) (d : Device) (s : Sound d) where
 
 -- a field holds what is at its spot
 pub get-law : (f : Field) (d : Device) → length (d .controllers) ≡ 3 → holds f d ≡ getD (getD (partsOf d) (spot f .0) []) (spot f .1) 0
-unfolding spot partsOf headOf
-get-law CR d h = refl
-get-law ERQ d h = refl
-get-law EEI d h = refl
-get-law INT d h = refl
-get-law ERR d h = refl
-get-law KICK d h = refl
-get-law DEFERRED d h = refl
-get-law DEADLINE d h = refl
-get-law LEVEL d h = refl
-get-law STANDING d h = refl
+unfolding spot partsOf ownOf
+get-law (SCALAR i) d h = refl
 get-law (MASKS zero) d h = refl
 get-law (MASKS (suc zero)) d h = refl
 get-law (MASKS (suc (suc zero))) d h = refl

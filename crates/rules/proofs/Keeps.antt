@@ -9,7 +9,7 @@ use lib.ListN.{length}
 use lib.Pow.{pow-pos}
 use Rattle.rules.specs.Act.{Act, Done, Endless, Stage, Fetch, Store, Ask, Put, Look, Space, window, table, Field}
 use Rattle.rules.specs.Bytes.{Bytes, bytes}
-use Rattle.rules.specs.Fields.{bitsOf, holds, withField, settingOf, headOf, partsOf}
+use Rattle.rules.specs.Fields.{bitsOf, holds, withField, settingOf, ownOf, partsOf}
 use Rattle.rules.specs.Carry.{Machine, World, Out, ok, no, bytesOf, withBytesOf, withDevice, indexOf, there, legal, fetched, stored, recorded, go, Lent}
 use Rattle.rules.proofs.BytesLaws.{length-splice, bytes-bytes, bytes-splice}
 use Rattle.rules.proofs.FieldLaws.{Sound, put-law, put-sound}
@@ -79,7 +79,7 @@ pub record Good (base : ℕ) (m : Machine) : Type 0 where
   pub table-below : length (m .dev .table) ≤ 2 ^ 32
 
 pub good-store : (base : ℕ) (sp : Space) (a n v : ℕ) (m : Machine) → Good base m → Good base (stored base sp a n v m)
-unfolding stored withBytesOf bytesOf headOf partsOf
+unfolding stored withBytesOf bytesOf ownOf partsOf
 good-store base window a n v m g = record {
   sound-dev = g .sound-dev;
   mem-bytes = bytes-splice (m .mem) (indexOf base window a) (bytes n v) (g .mem-bytes) (bytes-bytes n v);

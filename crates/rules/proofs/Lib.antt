@@ -5,6 +5,7 @@ pub mod Powers
 pub mod Masks
 pub mod BoolLaws
 pub mod PartLaws
+pub mod ScalarLaws
 pub mod FieldLaws
 pub mod Same
 pub mod Numbers

@@ -10,7 +10,8 @@ use Rattle.rules.specs.State.{Device}
 use Rattle.rules.specs.declared.Heard.{Heard}
 use Rattle.rules.specs.declared.Heard.the-variants as Heard
 use Rattle.rules.specs.declared.Tcd.{Tcd}
-use Rattle.rules.specs.Act.{Act, Done, Endless, Stage, Fetch, Store, Ask, Put, Look, acts, ERQ, KICK, FORCED, MAJORS, PENDING, SOURCE}
+use Rattle.rules.specs.Act.{Act, Done, Endless, Stage, Fetch, Store, Ask, Put, Look, acts, FORCED, MAJORS, PENDING, SOURCE}
+use Rattle.rules.specs.Scalars.{ERQ, KICK}
 use Rattle.rules.specs.Bytes.{bytesRules, bytes}
 use Rattle.rules.specs.Calls.{calls, fresh, run, ack, after, afterBack, Told, told, deviceTold, heardLevel, heardVector}
 use Rattle.rules.specs.Carry.{carry}

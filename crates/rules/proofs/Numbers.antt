@@ -10,7 +10,8 @@ use borrow.Author.Tests.{lt-ltb, le-ltb, ltb-true, ltb-false}
 use lib.Dec.{ltb}
 use lib.ListN.{getD, length, List·getD-eq-default}
 use Rattle.rules.specs.State.{Device}
-use Rattle.rules.specs.Act.{Field, BUSY, MAJORS, PENDING, SOURCE, TAKEN}
+use Rattle.rules.specs.Act.{Field, SCALAR, BUSY, MAJORS, PENDING, SOURCE, TAKEN}
+use Rattle.rules.specs.Scalars.{scalarBits}
 use Rattle.rules.specs.Fields.{joined, fieldsOf, fieldAt, ofController, holds}
 use Rattle.rules.proofs.PartLaws.{Within}
 use Rattle.rules.proofs.FieldLaws.{Sound, within, bitParts, fieldBits, Named, Agrees, AllNamed, all-named, holds-number}
@@ -18,21 +19,25 @@ use Rattle.rules.proofs.FieldLaws.{Sound, within, bitParts, fieldBits, 
 -- ---- range by range
 
 module _ (n : ℕ) where
-  pub at-gap : 10 ≤ n → n < 16 → fieldAt n ≡ none
+  pub at-scalar : n < length scalarBits → fieldAt n ≡ some (SCALAR n)
   unfolding fieldAt
-  at-gap h k = rw (le-ltb n 10 h, lt-ltb n 16 k)
+  at-scalar h = rw (lt-ltb n (length scalarBits) h)
+
+  pub at-gap : length scalarBits ≤ n → n < 16 → fieldAt n ≡ none
+  unfolding fieldAt
+  at-gap h k = rw (le-ltb n (length scalarBits) h, lt-ltb n 16 k)
 
   pub at-own : 16 ≤ n → n < 28 → fieldAt n ≡ some (ofController ((n - 16) % 4) ((n - 16) / 4))
   unfolding fieldAt
-  at-own h k = rw (le-ltb n 10 (omega arith), le-ltb n 16 h, lt-ltb n 28 k)
+  at-own h k = rw (le-ltb n (length scalarBits) (omega arith), le-ltb n 16 h, lt-ltb n 28 k)
 
   pub at-gap-2 : 28 ≤ n → n < 64 → fieldAt n ≡ none
   unfolding fieldAt
-  at-gap-2 h k = rw (le-ltb n 10 (omega arith), le-ltb n 16 (omega arith), le-ltb n 28 h, lt-ltb n 64 k)
+  at-gap-2 h k = rw (le-ltb n (length scalarBits) (omega arith), le-ltb n 16 (omega arith), le-ltb n 28 h, lt-ltb n 64 k)
 
   -- from 64 on: past the first four tests
-  past-64 : 64 ≤ n → (ltb n 10 ≡ false) × (ltb n 16 ≡ false) × (ltb n 28 ≡ false) × (ltb n 64 ≡ false)
-  past-64 h = (le-ltb n 10 (omega arith), le-ltb n 16 (omega arith), le-ltb n 28 (omega arith), le-ltb n 64 h)
+  past-64 : 64 ≤ n → (ltb n (length scalarBits) ≡ false) × (ltb n 16 ≡ false) × (ltb n 28 ≡ false) × (ltb n 64 ≡ false)
+  past-64 h = (le-ltb n (length scalarBits) (omega arith), le-ltb n 16 (omega arith), le-ltb n 28 (omega arith), le-ltb n 64 h)
 
   pub at-busy : 64 ≤ n → n < 128 → fieldAt n ≡ some (BUSY (n - 64))
   unfolding fieldAt

@@ -2,12 +2,18 @@
 use mathlib.Core.Path.{_≡_, refl, sym, ap, _∙_, subst}
 use mathlib.Core.List.{List, [], _∷_, _++_, map}
 use Prim.Native.Nat.{ℕ, zero, suc, _+_, _^_, _<_}
-use native.Mathlib.Nat.{zero-add, suc-add, add-assoc, not-suc-le-zero}
+use native.Mathlib.Nat.{zero-add, suc-add, add-assoc, not-suc-le-zero, le-of-suc-le-suc}
 use native.Mathlib.Omega.{arith}
 use lib.ListN.{length, getD, set, take, drop, List·getD-append}
 use lib.Pow.{pow-pos}
 use lib.Seq.{set-append-left, getD-append-add, take-at, drop-at}
 use Rattle.rules.specs.Fields.{joined}
+
+-- inside a list the default is not met
+pub any-default : (l : List ℕ) (i a b : ℕ) → i < length l → getD l i a ≡ getD l i b
+any-default [] i a b h = absurd (not-suc-le-zero h)
+any-default (x ∷ l) zero a b h = refl
+any-default (x ∷ l) (suc i) a b h = any-default l i a b (le-of-suc-le-suc h)
 
 -- where part k starts
 unfoldable pub start : List ℕ → ℕ → ℕ
@@ -81,7 +87,7 @@ within-length [] (x ∷ xs) h = absurd h
 within-length (b ∷ bs) [] h = absurd h
 within-length (b ∷ bs) (x ∷ xs) h = ap suc (within-length bs xs (h .1))
 
-within-set : (bs xs : List ℕ) (i v : ℕ) → Within bs xs → (i < length bs → v < 2 ^ getD bs i 0) → Within bs (set xs i v)
+pub within-set : (bs xs : List ℕ) (i v : ℕ) → Within bs xs → (i < length bs → v < 2 ^ getD bs i 0) → Within bs (set xs i v)
 within-set [] [] i v h k = tt
 within-set [] (x ∷ xs) i v h k = absurd h
 within-set (b ∷ bs) [] i v h k = absurd h

@@ -13,7 +13,8 @@ use lib.Seq.{getD-set-same}
 use borrow.Author.Tests.{ltb-true, ltb-false, eq-eqb, ne-eqb, eqb-true, eqb-false, not-true}
 use Rattle.rules.specs.State.{Device}
 use Rattle.rules.specs.declared.Tcd.{Tcd}
-use Rattle.rules.specs.Act.{Act, fetch, store, ask, change, when, Space, window, table, KICK, INT, ERQ, MAJORS, CR}
+use Rattle.rules.specs.Act.{Act, fetch, store, ask, change, when, Space, window, table, MAJORS}
+use Rattle.rules.specs.Scalars.{KICK, INT, ERQ, CR}
 use Rattle.rules.specs.Act as acts
 use Rattle.rules.specs.Carry.{World, ok, no, bytesOf, withBytesOf, indexOf, stored, fetched, withDevice, legal, there, recorded, go, Lent}
 use Rattle.rules.specs.Bytes.{bytes, number, part, splice}
@@ -371,7 +372,7 @@ pub data Counted (ch count majors : ℕ) (after : Device) : Type 0 where
 
 majors-put : (ch x : ℕ) (u : World) → ch < 64 → Proper (u .now .dev) → Majors ch x (putting (MAJORS ch) x u)
 unfolding withDevice partsOf
-majors-put ch x u h p = getD-set-same (u .now .dev .majors) ch x 0 (omega (arith, sized (u .now .dev) (p .sound) .1 .1 .0))
+majors-put ch x u h p = getD-set-same (u .now .dev .majors) ch x 0 (omega (arith, sized (u .now .dev) (p .sound) .1 .1 .1 .1 .0))
 
 module _ {base : ℕ} {lent : Lent} (ch : ℕ) (h : ch < 64) where
   -- majors + 1

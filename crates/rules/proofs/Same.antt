@@ -6,7 +6,7 @@ use native.Mathlib.Omega.{arith}
 use lib.ListN.{getD}
 use lib.Seq.{ext-getD}
 use Rattle.rules.specs.State.{Controller, Device}
-use Rattle.rules.specs.Fields.{headOf, partsOf, fieldsOf, controller, noController}
+use Rattle.rules.specs.Fields.{ownOf, partsOf, fieldsOf, controller, noController}
 use Rattle.rules.proofs.PartLaws.{parts-same}
 use Rattle.rules.proofs.FieldLaws.{sizes, Sound, sized}
 
@@ -30,21 +30,21 @@ module _ (d e : Device) (s : Sound d) (t : Sound e) (same : fieldsOf d ≡ field
   part : (k : ℕ) → getD (partsOf d) k [] ≡ getD (partsOf e) k []
   part k = ap (λ (l : List (List ℕ)). getD l k []) parts
 
-  number : (k : ℕ) → getD (headOf d) k 0 ≡ getD (headOf e) k 0
+  number : (k : ℕ) → getD (ownOf d) k 0 ≡ getD (ownOf e) k 0
   unfolding partsOf
-  number k = ap (λ (l : List ℕ). getD l k 0) (part 0)
+  number k = ap (λ (l : List ℕ). getD l k 0) (part 2)
 
   controllers-same : d .controllers ≡ e .controllers
-  unfolding partsOf headOf
+  unfolding partsOf ownOf
   controllers-same =
       ext-getD noController (d .controllers) (e .controllers) (s .three ∙ sym (t .three))
       (λ i h. below-three (λ i. controller (d .controllers) i ≡ controller (e .controllers) i)
-      (same-controller _ _ (number 16) (number 17) (number 18) (number 19) (part 4))
-      (same-controller _ _ (number 20) (number 21) (number 22) (number 23) (part 5))
-      (same-controller _ _ (number 24) (number 25) (number 26) (number 27) (part 6))
+      (same-controller _ _ (number 0) (number 1) (number 2) (number 3) (part 6))
+      (same-controller _ _ (number 4) (number 5) (number 6) (number 7) (part 7))
+      (same-controller _ _ (number 8) (number 9) (number 10) (number 11) (part 8))
       i (omega (arith, s .three)))
 
   pub device-same : d .table ≡ e .table → d .ignore ≡ e .ignore → d ≡ e
-  unfolding partsOf headOf
+  unfolding partsOf ownOf
   device-same p q =
-      rw (number 0, number 1, number 2, number 3, number 4, number 5, number 6, number 7, number 8, number 9, q, p, part 1, part 2, part 3, controllers-same, part 8) refl
+      rw (part 0, q, p, part 3, part 4, part 5, controllers-same, part 10) refl

@@ -8,7 +8,8 @@ use Prim.Native.Nat.{ℕ, zero, suc, _-_}
 use lib.Dec.{eqb, ltb}
 use lib.ListN.{getD, set}
 use Rattle.rules.specs.State.{Controller, Device}
-use Rattle.rules.specs.Act.{Act, Space, window, table, Field, CR, ERQ, EEI, INT, ERR, KICK, DEFERRED, DEADLINE, LEVEL, STANDING, MASKS, FORCED, LINES, CONFIG, BUSY, MAJORS, PENDING, TAKEN, SOURCE, IGNORE, nothing}
+use Rattle.rules.specs.Act.{Act, Space, window, table, Field, SCALAR, MASKS, FORCED, LINES, CONFIG, BUSY, MAJORS, PENDING, TAKEN, SOURCE, IGNORE, nothing}
+use Rattle.rules.specs.Scalars.{CR, ERQ, EEI, INT, ERR, KICK, LEVEL, STANDING}
 use Rattle.rules.specs.Calls.{setInputs, setPending, orNothing, levelled}
 use Rattle.rules.specs.Carry.{World, stored, withBytesOf, withDevice, recorded, go, Lent}
 use Rattle.rules.specs.Fields.{controller, withField}
@@ -39,16 +40,7 @@ Allowed t zero = Unit {0}
 Allowed t (suc k) = t k ≡ true
 
 abbrev pub arrayOf : Field → ℕ
-arrayOf CR = 0
-arrayOf ERQ = 0
-arrayOf EEI = 0
-arrayOf INT = 0
-arrayOf ERR = 0
-arrayOf KICK = 0
-arrayOf DEFERRED = 0
-arrayOf DEADLINE = 0
-arrayOf LEVEL = 0
-arrayOf STANDING = 0
+arrayOf (SCALAR i) = 0
 arrayOf (MASKS c) = 0
 arrayOf (FORCED c) = 0
 arrayOf (LINES c) = 0
@@ -94,16 +86,7 @@ module _ (t : ℕ → Bool) (d₀ : Device) where
   }
 
   put-same : (f : Field) (v : ℕ) (d : Device) → Allowed t (arrayOf f) → SameArrays t d₀ d → SameArrays t d₀ (withField f v d)
-  put-same CR v d a h = h
-  put-same ERQ v d a h = h
-  put-same EEI v d a h = h
-  put-same INT v d a h = h
-  put-same ERR v d a h = h
-  put-same KICK v d a h = h
-  put-same DEFERRED v d a h = h
-  put-same DEADLINE v d a h = h
-  put-same LEVEL v d a h = h
-  put-same STANDING v d a h = h
+  put-same (SCALAR i) v d a h = h
   put-same (MASKS c) v d a h = with-levels d _ (levels-stay (λ k. withMasks k v) (λ x. refl) (d .controllers) c) h
   put-same (FORCED c) v d a h = with-levels d _ (levels-stay (λ k. withForced k v) (λ x. refl) (d .controllers) c) h
   put-same (LINES c) v d a h = with-levels d _ (levels-stay (λ k. withLines k v) (λ x. refl) (d .controllers) c) h

@@ -1,5 +1,5 @@
 -- What every call leaves of a device, accepted or refused, whatever it is given: the setting, and that a proper device is one. Assumes nothing.
-use mathlib.Core.Bool.{Bool, true, false, _&&_, false≢true}
+use mathlib.Core.Bool.{Bool, true, false, false≢true}
 use mathlib.Core.List.{List, []}
 use mathlib.Core.Option.{Option, none, some}
 use mathlib.Core.Path.{_≡_, refl}
@@ -9,7 +9,7 @@ use borrow.Author.Tests.{ltb-true}
 use lib.Dec.{eqb, leb}
 use lib.ListN.{length, take, drop}
 use lib.Pow.{pow-pos}
-use Rattle.rules.specs.Act.{Act, Space, window, table, Field, CR, ERQ, EEI, INT, ERR, KICK, DEFERRED, DEADLINE, LEVEL, STANDING, MASKS, FORCED, LINES, CONFIG, BUSY, MAJORS, PENDING, SOURCE, TAKEN}
+use Rattle.rules.specs.Act.{Act, Space, window, table, Field, SCALAR, MASKS, FORCED, LINES, CONFIG, BUSY, MAJORS, PENDING, SOURCE, TAKEN}
 use Rattle.rules.specs.Bytes.{bytes, splice}
 use Rattle.rules.specs.Calls.{Asked, actOf, wrong, wrongBack, told, deviceTold, stagingAfter, worldOf, toldAfter, after, heardNothing, afterBack}
 use Rattle.rules.specs.Carry.{Machine, World, Out, ok, no, bytesOf, withBytesOf, withDevice, indexOf, stored, recorded, go, After, made, unmade, lastLines, written, cleared, leave, perform, undoRec, undo, Lent, lending}
@@ -23,7 +23,6 @@ use Rattle.rules.proofs.BoolLaws.{and-left, and-right}
 use Rattle.rules.proofs.Each.{Proper, proper-table, proper-field}
 use Rattle.rules.proofs.Keeps.{AtEnd, go-keeps}
 use Rattle.rules.proofs.Lasts.{Ending, BackEnds, none, damaged, taken, back-ends}
-use Rattle.rules.proofs.Steps.{putting}
 
 -- ---- what a store to the table and a field put leave, every call leaves
 
@@ -118,16 +117,7 @@ module _ (P : Device → Type 0) (onTable : (i n v : ℕ) (d : Device) → P d �
 -- ---- "Ignoring masks is a setting chosen with the device, which no call changes"
 
 setting-on : (ignore : Bool) (f : Field) (v : ℕ) (d : Device) → v < 2 ^ bitsOf f → d .ignore ≡ ignore → withField f v d .ignore ≡ ignore
-setting-on ignore CR v d l e = e
-setting-on ignore ERQ v d l e = e
-setting-on ignore EEI v d l e = e
-setting-on ignore INT v d l e = e
-setting-on ignore ERR v d l e = e
-setting-on ignore KICK v d l e = e
-setting-on ignore DEFERRED v d l e = e
-setting-on ignore DEADLINE v d l e = e
-setting-on ignore LEVEL v d l e = e
-setting-on ignore STANDING v d l e = e
+setting-on ignore (SCALAR i) v d l e = e
 setting-on ignore (MASKS c) v d l e = e
 setting-on ignore (FORCED c) v d l e = e
 setting-on ignore (LINES c) v d l e = e

@@ -18,6 +18,7 @@ use Rattle.rules.specs.declared.Refusal.{Refusal}
 use Rattle.rules.specs.declared.Refusal.the-variants as Refusal
 use Rattle.rules.specs.declared.Verdict.{Verdict}
 use Rattle.rules.specs.declared.Verdict.the-variants as Verdict
+use Rattle.rules.proofs.ScalarLaws.{scalars-once}
 
 -- ---- the refusal of a number
 
@@ -86,22 +87,13 @@ pub view-once : (d e : HeldDevice) → view d ≡ view e → d ≡ e
 view-once d e p =
     let cs : d .controllers ≡ e .controllers = controllers-once (d .controllers) (e .controllers) (ap (λ (x : Device). x .controllers) p) in λ i.
     record {
-      erq = p i .erq;
-      eei = p i .eei;
-      int = p i .int;
-      err = p i .err;
-      kick = p i .kick;
-      deferred = p i .deferred;
-      deadline = p i .deadline;
-      standing = p i .standing;
+      scalars = scalars-once (d .scalars) (e .scalars) (ap (λ (x : Device). x .scalars) p) i;
       table = p i .table;
       busy = p i .busy;
       majors = p i .majors;
       taken = p i .taken;
       pending = p i .pending;
       controllers = cs i;
-      cr = p i .cr;
-      level = p i .level;
       «ignore_masks» = p i .ignore;
     }
 

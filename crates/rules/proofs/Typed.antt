@@ -1,7 +1,7 @@
 -- What every value of the declared type `Device` stands for is sound, and its table has 2048 bytes. Assumes nothing.
 use mathlib.Core.Path.{_≡_, sym, _∙_}
 use mathlib.Core.List.{List, [], _∷_, map}
-use Prim.Native.Nat.{ℕ, zero, suc, _+_, _≤_, _<_, _^_}
+use Prim.Native.Nat.{ℕ, zero, suc, _+_, _-_, _≤_, _<_, _^_}
 use native.Mathlib.Nat.{not-suc-le-zero, le-of-suc-le-suc, le-of-eq, suc-inj}
 use native.Mathlib.Omega.{arith}
 use lib.Dec.{lit<}
@@ -18,12 +18,16 @@ use denote.Struct.Laws.{val}
 use Rattle.rules.proofs.Device.{the-type}
 use Rattle.rules.proofs.Device.Laws.{the-laws}
 use Rattle.rules.proofs.Controller.{the-field}
+use Rattle.rules.proofs.Scalars.{the-field as the-scalars, the-type as the-scalars-type}
+use Rattle.rules.proofs.Scalars.Laws.{the-laws as the-scalars-laws}
 use Rattle.rules.specs.State.{Controller}
+use Rattle.rules.specs.Scalars.{scalarBits, viewScalars}
 use Rattle.rules.specs.View.{viewController, view}
 use Rattle.rules.specs.declared.Controller.{Controller as HeldController}
 use Rattle.rules.specs.declared.Device.{Device as HeldDevice}
+use Rattle.rules.specs.declared.Scalars.{Scalars}
 use Rattle.rules.specs.Bytes.{Bytes}
-use Rattle.rules.specs.Fields.{controller, headOf, partsOf}
+use Rattle.rules.specs.Fields.{controller, ownOf, partsOf}
 use Rattle.rules.proofs.PartLaws.{Within}
 use Rattle.rules.proofs.FieldLaws.{Sound, bitParts}
 use Rattle.rules.proofs.Keeps.{Good}
@@ -31,6 +35,9 @@ use Rattle.rules.proofs.Keeps.{Good}
 -- what `.good` holds of a parameter, and `.ok` of a call's result
 abbrev pub Typed : HeldDevice → Type 0
 Typed d = Is (row the-type) d (val the-type the-laws d ∷ [])
+
+abbrev pub TypedScalars : Scalars → Type 0
+TypedScalars s = Is (row the-scalars-type) s (val the-scalars-type the-scalars-laws s ∷ [])
 
 -- an array of numbers
 within-each : (own : ℕ → List Val → Fml) (b : ℕ) → ((x : ℕ) (u : Val) → shadow (own x (u ∷ [])) → x < 2 ^ b)
@@ -72,13 +79,20 @@ each-fits (c ∷ cs) (u ∷ us) s zero h =
     }
 each-fits (c ∷ cs) (u ∷ us) s (suc i) h = each-fits cs us (s .1) i (le-of-suc-le-suc h)
 
+-- the numbers that stand alone
+pub scalars-fit : (s : Scalars) (us : List Val) → shadow (the-scalars .row .own (the-scalars .into s) us) → Within scalarBits (viewScalars s)
+scalars-fit s us h = (search (needs, h), (search (needs, h), (search (needs, h), (search (needs, h), (search (needs, h), (search (needs, h), (search (needs, h), (search (needs, h), (search (needs, h), (search (needs, h), tt))))))))))
+
+pub scalars-within : (s : Scalars) → TypedScalars s → Within scalarBits (viewScalars s)
+scalars-within s g = scalars-fit s _ g
+
 pub table-size : (d : HeldDevice) → Typed d → length (d .table) ≡ 2048
-table-size d g = search (needs, g .1 .1 .1 .1 .1 .1 .1 .1 .1 .1 .0)
+table-size d g = search (needs, g .1 .1 .1 .0)
 
 pub sound : (d : HeldDevice) → Typed d → Sound (view d)
-unfolding bitParts partsOf headOf
+unfolding bitParts partsOf ownOf
 sound d g =
-    let t = g .1 .1 .1 .1 .1 .1 .1 .1 .1 .1 in
+    let t = g .1 .1 .1 in
     let cs = t .1 .1 .1 .1 .1 .0 in
     let three : length (d .controllers) ≡ 3 = sym (length-map (d .controllers) (the-field .into)) ∙ cs .1 .0 .1 in
     let k : (i : ℕ) → i < 3 → Fits (controller (map viewController (d .controllers)) i) = λ i l. each-fits (d .controllers) _ (cs .1 .1) i (omega arith) in
@@ -89,37 +103,32 @@ sound d g =
     let majors-l : length (d .majors) ≡ 64 = search (needs, t .1 .1 .0) in
     let taken-l : length (d .taken) ≡ 192 = search (needs, t .1 .1 .1 .0) in
     let pending-l : length (d .pending) ≡ 64 = search (needs, t .1 .1 .1 .1 .0) in
-    let z : 0 < 2 ^ 0 = lit< tt in
     let zs : (n : ℕ) → Within (replicate n 0) (replicate n 0) = zeros in
-    let erq : d .erq < 2 ^ 64 = search (needs, g .1) in
-    let eei : d .eei < 2 ^ 64 = search (needs, g .1) in
-    let int : d .int < 2 ^ 64 = search (needs, g .1) in
-    let err : d .err < 2 ^ 64 = search (needs, g .1) in
-    let kick : d .kick < 2 ^ 64 = search (needs, g .1) in
-    let deferred : d .deferred < 2 ^ 64 = search (needs, g .1) in
-    let deadline : d .deadline < 2 ^ 64 = search (needs, g .1) in
-    let standing : d .standing < 2 ^ 64 = search (needs, g .1) in
-    let cr : d .cr < 2 ^ 32 = search (needs, t .1 .1 .1 .1 .1 .1) in
-    let level : d .level < 2 ^ 8 = search (needs, t .1 .1 .1 .1 .1 .1) in
     record {
       three = length-map (d .controllers) viewController ∙ three;
       fitting = (
-        (cr, (erq, (eei, (int, (err, (kick, (deferred, (deadline, (level, (standing, (z, (z, (z, (z, (z, (z, (a .masks, (a .forced, (a .lines, (a .config, (b .masks, (b .forced, (b .lines, (b .config, (c .masks, (c .forced, (c .lines, (c .config, zs 36)))))))))))))))))))))))))))),
+        scalars-fit (d .scalars) _ (g .1 .1 .0),
         (
-          within-each (u64-field .row .own) 64 (λ x u f. search (needs, f)) 64 (d .busy) (t .1 .0 .0) busy-l (t .1 .0 .1 .1),
+          zs (16 - length scalarBits),
           (
-            within-each (u64-field .row .own) 64 (λ x u f. search (needs, f)) 64 (d .majors) (t .1 .1 .0 .0) majors-l (t .1 .1 .0 .1 .1),
+            (a .masks, (a .forced, (a .lines, (a .config, (b .masks, (b .forced, (b .lines, (b .config, (c .masks, (c .forced, (c .lines, (c .config, zs 36)))))))))))),
             (
-              within-each (u32-field .row .own) 32 (λ x u f. search (needs, f)) 64 (d .pending) (t .1 .1 .1 .1 .0 .0) pending-l (t .1 .1 .1 .1 .0 .1 .1),
+              within-each (u64-field .row .own) 64 (λ x u f. search (needs, f)) 64 (d .busy) (t .1 .0 .0) busy-l (t .1 .0 .1 .1),
               (
-                a .levels,
+                within-each (u64-field .row .own) 64 (λ x u f. search (needs, f)) 64 (d .majors) (t .1 .1 .0 .0) majors-l (t .1 .1 .0 .1 .1),
                 (
-                  b .levels,
+                  within-each (u32-field .row .own) 32 (λ x u f. search (needs, f)) 64 (d .pending) (t .1 .1 .1 .1 .0 .0) pending-l (t .1 .1 .1 .1 .0 .1 .1),
                   (
-                    c .levels,
+                    a .levels,
                     (
-                      zs 128,
-                      (within-each (u64-field .row .own) 64 (λ x u f. search (needs, f)) 192 (d .taken) (t .1 .1 .1 .0 .0) taken-l (t .1 .1 .1 .0 .1 .1), tt),
+                      b .levels,
+                      (
+                        c .levels,
+                        (
+                          zs 128,
+                          (within-each (u64-field .row .own) 64 (λ x u f. search (needs, f)) 192 (d .taken) (t .1 .1 .1 .0 .0) taken-l (t .1 .1 .1 .0 .1 .1), tt),
+                        ),
+                      ),
                     ),
                   ),
                 ),

@@ -14,7 +14,7 @@ use Rattle.rules.specs.Act.{Space, window, table, Field}
 use Rattle.rules.specs.Bytes.{Bytes, bytes, number, part, splice}
 use Rattle.rules.specs.State.{Device}
 use Rattle.rules.specs.With.{withTable}
-use Rattle.rules.specs.Fields.{headOf, partsOf, fieldsOf, fieldAt, withSome}
+use Rattle.rules.specs.Fields.{ownOf, partsOf, fieldsOf, fieldAt, withSome}
 use Rattle.rules.specs.Carry.{Machine, Rec, stoodAt, stoodIn, bytesOf, withBytesOf, withDevice, indexOf, fetched, stored, changed, undoRec, undo}
 use Rattle.rules.proofs.BytesLaws.{length-bytes, splice-undo, part-back}
 use Rattle.rules.proofs.PartLaws.{Within}
@@ -102,7 +102,7 @@ module _ (base : ℕ) where
   -- the records of the fields that differ from those of m₀, undone at m: the device of m₀, but for the table
   pub fields-back : (m₀ m : Machine) → Sound (m₀ .dev) → Sound (m .dev) → m .dev .ignore ≡ m₀ .dev .ignore
       → undo base (changed 0 (fieldsOf (m₀ .dev)) (fieldsOf (m .dev))) m ≡ asIn (m₀ .dev) m
-  unfolding fieldsOf partsOf headOf
+  unfolding fieldsOf partsOf ownOf
   fields-back m₀ m s t i =
       let e = undo base (changed 0 (fieldsOf (m₀ .dev)) (fieldsOf (m .dev))) m in
       let r : Restored m e (fieldsOf (m₀ .dev)) =

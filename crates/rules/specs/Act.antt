@@ -10,10 +10,10 @@ infixl 20 _>>_
 pub data Space : Type 0 where
   window table : Space
 
--- the fields, by name; `TAKEN i` is the taken count of vector 64 + i, `SOURCE c s` the level byte of source s of controller c
+-- the fields, by name; `SCALAR i` is the number i of those that stand alone (`Scalars` has their names), `TAKEN i` the taken count of vector
+-- 64 + i, `SOURCE c s` the level byte of source s of controller c
 pub data Field : Type 0 where
-  CR ERQ EEI INT ERR KICK DEFERRED DEADLINE LEVEL STANDING : Field
-  MASKS FORCED LINES CONFIG BUSY MAJORS PENDING TAKEN : ℕ → Field
+  SCALAR MASKS FORCED LINES CONFIG BUSY MAJORS PENDING TAKEN : ℕ → Field
   SOURCE : ℕ → ℕ → Field
 
 -- what is chosen when the device is made, and no step changes

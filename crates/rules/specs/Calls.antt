@@ -7,7 +7,9 @@ use Prim.Native.Nat.{ℕ, zero, suc, _+_, _-_, _%_, _^_}
 use lib.Bits.{bitAnd, bitOr}
 use lib.Dec.{eqb, ltb}
 use lib.ListN.{length, replicate, take, drop}
-use Rattle.rules.specs.Act.{Act, done, nothing, ask, put, change, _>>=_, _>>_, ERQ, KICK, STANDING, LINES, PENDING}
+use Rattle.rules.specs.Act.{Act, done, nothing, ask, put, change, _>>=_, _>>_, LINES, PENDING}
+use Rattle.rules.specs.Scalars.{ERQ, KICK, DEADLINE, STANDING, scalarBits}
+use Rattle.rules.specs.Fields.{withField}
 use Rattle.rules.specs.Carry.{World, After, made, unmade, perform, lending}
 use Rattle.rules.specs.TakeBack.{takeBack}
 use Rattle.rules.specs.Run.{requesting, runAll, serviceAll}
@@ -72,25 +74,16 @@ unfoldable pub freshController : Controller
 freshController = record { masks = 2 ^ 64 - 1; forced = 0; lines = 0; levels = replicate 64 0; config = 0 }
 
 unfoldable pub fresh : Bool → Device
-fresh ignore = record {
-  erq = 0;
-  eei = 0;
-  int = 0;
-  err = 0;
-  kick = 0;
-  deferred = 0;
-  deadline = 2 ^ 64 - 1;
-  standing = 0;
-  table = replicate 2048 0;
+fresh ignore = withField DEADLINE (2 ^ 64 - 1) (record {
+  scalars = replicate (length scalarBits) 0;
+  controllers = freshController ∷ freshController ∷ freshController ∷ [];
   busy = replicate 64 0;
   majors = replicate 64 0;
-  taken = replicate 192 0;
   pending = replicate 64 0;
-  controllers = freshController ∷ freshController ∷ freshController ∷ [];
-  cr = 0;
-  level = 0;
+  taken = replicate 192 0;
+  table = replicate 2048 0;
   ignore = ignore;
-}
+})
 
 -- ---- the acts
 

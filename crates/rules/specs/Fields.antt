@@ -4,11 +4,11 @@ use mathlib.Core.List.{List, [], _∷_, _++_}
 use mathlib.Core.Option.{Option, none, some}
 use Prim.Native.Nat.{ℕ, zero, suc, _+_, _-_, _*_, _/_, _%_, _^_}
 use lib.Dec.{ltb}
-use lib.ListN.{getD, set, replicate}
+use lib.ListN.{length, getD, set, replicate}
 use Rattle.rules.specs.State.{Controller, Device}
-use Rattle.rules.specs.Act.{Field, CR, ERQ, EEI, INT, ERR, KICK, DEFERRED, DEADLINE, LEVEL, STANDING, MASKS, FORCED, LINES, CONFIG, BUSY, MAJORS, PENDING, SOURCE, TAKEN, Setting, IGNORE}
-use Rattle.rules.specs.With.{withCr, withErq, withEei, withInt, withErr, withKick, withDeferred, withDeadline, withStanding, withLevel}
-use Rattle.rules.specs.With.{withBusy, withMajors, withPending, withControllers, withTaken}
+use Rattle.rules.specs.Act.{Field, SCALAR, MASKS, FORCED, LINES, CONFIG, BUSY, MAJORS, PENDING, SOURCE, TAKEN, Setting, IGNORE}
+use Rattle.rules.specs.Scalars.{scalarBits}
+use Rattle.rules.specs.With.{withScalars, withBusy, withMajors, withPending, withControllers, withTaken}
 use Rattle.rules.specs.With.{withMasks, withForced, withLines, withConfig, withLevels}
 
 -- ---- by name
@@ -21,16 +21,7 @@ controller l c = getD l c noController
 
 -- what a device holds in a field
 abbrev pub holds : Field → Device → ℕ
-holds CR d = d .cr
-holds ERQ d = d .erq
-holds EEI d = d .eei
-holds INT d = d .int
-holds ERR d = d .err
-holds KICK d = d .kick
-holds DEFERRED d = d .deferred
-holds DEADLINE d = d .deadline
-holds LEVEL d = d .level
-holds STANDING d = d .standing
+holds (SCALAR i) d = getD (d .scalars) i 0
 holds (MASKS c) d = controller (d .controllers) c .masks
 holds (FORCED c) d = controller (d .controllers) c .forced
 holds (LINES c) d = controller (d .controllers) c .lines
@@ -47,16 +38,7 @@ onController d c g = withControllers d (set (d .controllers) c (g (controller (d
 
 -- the device with another value in a field
 abbrev pub withField : Field → ℕ → Device → Device
-withField CR v d = withCr d v
-withField ERQ v d = withErq d v
-withField EEI v d = withEei d v
-withField INT v d = withInt d v
-withField ERR v d = withErr d v
-withField KICK v d = withKick d v
-withField DEFERRED v d = withDeferred d v
-withField DEADLINE v d = withDeadline d v
-withField LEVEL v d = withLevel d v
-withField STANDING v d = withStanding d v
+withField (SCALAR i) v d = withScalars d (set (d .scalars) i v)
 withField (MASKS c) v d = onController d c (λ k. withMasks k v)
 withField (FORCED c) v d = onController d c (λ k. withForced k v)
 withField (LINES c) v d = onController d c (λ k. withLines k v)
@@ -69,16 +51,7 @@ withField (TAKEN i) v d = withTaken d (set (d .taken) i v)
 
 -- CR, pending: 32 bits; ICONFIG 16; levels 8; others 64
 unfoldable pub bitsOf : Field → ℕ
-bitsOf CR = 32
-bitsOf ERQ = 64
-bitsOf EEI = 64
-bitsOf INT = 64
-bitsOf ERR = 64
-bitsOf KICK = 64
-bitsOf DEFERRED = 64
-bitsOf DEADLINE = 64
-bitsOf LEVEL = 8
-bitsOf STANDING = 64
+bitsOf (SCALAR i) = getD scalarBits i 64
 bitsOf (MASKS c) = 64
 bitsOf (FORCED c) = 64
 bitsOf (LINES c) = 64
@@ -95,16 +68,7 @@ settingOf IGNORE d = d .ignore
 -- ---- by number
 
 unfoldable pub numberOf : Field → ℕ
-numberOf CR = 0
-numberOf ERQ = 1
-numberOf EEI = 2
-numberOf INT = 3
-numberOf ERR = 4
-numberOf KICK = 5
-numberOf DEFERRED = 6
-numberOf DEADLINE = 7
-numberOf LEVEL = 8
-numberOf STANDING = 9
+numberOf (SCALAR i) = i
 numberOf (MASKS c) = 16 + 4 * c
 numberOf (FORCED c) = 17 + 4 * c
 numberOf (LINES c) = 18 + 4 * c
@@ -124,7 +88,7 @@ ofController (suc (suc (suc k))) c = CONFIG c
 
 unfoldable pub fieldAt : ℕ → Option Field
 fieldAt n =
-    cond (ltb n 10) (some (getD (CR ∷ ERQ ∷ EEI ∷ INT ∷ ERR ∷ KICK ∷ DEFERRED ∷ DEADLINE ∷ LEVEL ∷ STANDING ∷ []) n CR))
+    cond (ltb n (length scalarBits)) (some (SCALAR n))
     (cond (ltb n 16) none
     (cond (ltb n 28) (some (ofController ((n - 16) % 4) ((n - 16) / 4)))
     (cond (ltb n 64) none
@@ -157,15 +121,13 @@ joined (p ∷ ps) = p ++ joined ps
 abbrev pub masksOf : Controller → List ℕ → List ℕ
 masksOf c rest = c .masks ∷ c .forced ∷ c .lines ∷ c .config ∷ rest
 
--- fields 0 to 63
-unfoldable pub headOf : Device → List ℕ
-headOf d =
-    d .cr ∷ d .erq ∷ d .eei ∷ d .int ∷ d .err ∷ d .kick ∷ d .deferred ∷ d .deadline ∷ d .level ∷ d .standing ∷ 0 ∷ 0 ∷ 0 ∷ 0 ∷ 0 ∷ 0
-    ∷ masksOf (controller (d .controllers) 0) (masksOf (controller (d .controllers) 1) (masksOf (controller (d .controllers) 2) (replicate 36 0)))
+-- fields 16 to 63
+unfoldable pub ownOf : Device → List ℕ
+ownOf d = masksOf (controller (d .controllers) 0) (masksOf (controller (d .controllers) 1) (masksOf (controller (d .controllers) 2) (replicate 36 0)))
 
 unfoldable pub partsOf : Device → List (List ℕ)
 partsOf d =
-    headOf d ∷ d .busy ∷ d .majors ∷ d .pending
+    d .scalars ∷ replicate (16 - length scalarBits) 0 ∷ ownOf d ∷ d .busy ∷ d .majors ∷ d .pending
     ∷ controller (d .controllers) 0 .levels ∷ controller (d .controllers) 1 .levels ∷ controller (d .controllers) 2 .levels ∷ replicate 128 0 ∷ d .taken ∷ []
 
 unfoldable pub fieldsOf : Device → List ℕ
@@ -173,5 +135,5 @@ fieldsOf d = joined (partsOf d)
 
 -- on an `unfolding` line: all the definitions of this file
 unfoldable pub fields : Unit {0}
-unfolding bitsOf numberOf ofController fieldAt joined headOf partsOf fieldsOf
+unfolding bitsOf numberOf ofController fieldAt joined ownOf partsOf fieldsOf
 fields = tt

@@ -1,9 +1,10 @@
 pub mod Bytes
 pub mod Words
 pub mod State
+pub mod Act
+pub mod Scalars
 pub mod View
 pub mod With
-pub mod Act
 pub mod Fields
 pub mod Carry
 pub mod Minor

@@ -5,7 +5,8 @@ use Prim.Native.Nat.{ℕ, zero, suc, _+_, _*_, _/_, _%_, _^_, max}
 use lib.Bits.{bitOr}
 use lib.Dec.{eqb, leb, ltb}
 use lib.ListN.{getD}
-use Rattle.rules.specs.Act.{Act, done, ask, put, change, look, _>>=_, _>>_, INT, LEVEL, MASKS, FORCED, LINES, SOURCE, TAKEN, IGNORE}
+use Rattle.rules.specs.Act.{Act, done, ask, put, change, look, _>>=_, _>>_, MASKS, FORCED, LINES, SOURCE, TAKEN, IGNORE}
+use Rattle.rules.specs.Scalars.{INT, LEVEL}
 use Rattle.rules.specs.Words.{has, without}
 use Rattle.rules.specs.declared.Heard.{Heard}
 use Rattle.rules.specs.declared.Heard.the-variants as Heard

@@ -4,7 +4,8 @@ use mathlib.Core.List.{List, [], _++_}
 use Prim.Native.Nat.{ℕ, zero, suc, _+_, _-_, _*_, _/_, _%_, _^_, min}
 use lib.Dec.{eqb}
 use Rattle.rules.specs.declared.Tcd.{Tcd}
-use Rattle.rules.specs.Act.{Act, done, nothing, stage, fetch, store, ask, change, when, window, table, _>>=_, _>>_, CR, ERQ, INT, KICK, MAJORS}
+use Rattle.rules.specs.Act.{Act, done, nothing, stage, fetch, store, ask, change, when, window, table, _>>=_, _>>_, MAJORS}
+use Rattle.rules.specs.Scalars.{CR, ERQ, INT, KICK}
 use Rattle.rules.specs.Bytes.{bytes, number, part}
 use Rattle.rules.specs.Words.{has, gain, lose, wrap32, signed, moduloAdd, sizeOf, unitOf, wholes, linked, countOf, linkOf, recount}
 

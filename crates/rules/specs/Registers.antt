@@ -7,12 +7,13 @@ use Prim.Native.Nat.{ℕ, zero, suc, _+_, _-_, _*_, _/_, _%_, _^_}
 use lib.Bits.{bitAnd, bitOr}
 use lib.Dec.{eqb, leb, ltb}
 use lib.ListN.{getD}
-use Rattle.rules.specs.Act.{Act, nothing, fetch, store, put, change, when, table, _>>=_, _>>_, CR, ERQ, EEI, INT, ERR, KICK, MASKS, FORCED, CONFIG, SOURCE}
+use Rattle.rules.specs.Act.{Act, nothing, fetch, store, put, change, when, table, _>>=_, _>>_, MASKS, FORCED, CONFIG, SOURCE}
+use Rattle.rules.specs.Scalars.{CR, ERQ, EEI, INT, ERR, KICK}
 use Rattle.rules.specs.Bytes.{bytes, number, part, splice}
 use Rattle.rules.specs.Words.{has, gain, lose, without}
 use Rattle.rules.specs.Minor.{START, DONE}
 use Rattle.rules.specs.Run.{requesting}
-use Rattle.rules.specs.Fields.{controller}
+use Rattle.rules.specs.Fields.{controller, holds}
 use Rattle.rules.specs.State.{Controller, Device}
 
 -- ---- the blocks
@@ -194,16 +195,16 @@ lookUp off size (c ∷ rest) = cond (eqb off (c .off) && eqb size (c .size)) (so
 
 unfoldable pub dmaCells : Device → List Cell
 dmaCells d =
-    cell 0x00 4 (d .cr)
+    cell 0x00 4 (holds CR d)
     ∷ cell 0x04 4 0
-    ∷ cell 0x08 4 (bytesIn 0 4 (d .erq))
-    ∷ cell 0x0C 4 (bytesIn 4 4 (d .erq))
-    ∷ cell 0x10 4 (bytesIn 0 4 (d .eei))
-    ∷ cell 0x14 4 (bytesIn 4 4 (d .eei))
-    ∷ cell 0x20 4 (bytesIn 0 4 (d .int))
-    ∷ cell 0x24 4 (bytesIn 4 4 (d .int))
-    ∷ cell 0x28 4 (bytesIn 0 4 (d .err))
-    ∷ cell 0x2C 4 (bytesIn 4 4 (d .err))
+    ∷ cell 0x08 4 (bytesIn 0 4 (holds ERQ d))
+    ∷ cell 0x0C 4 (bytesIn 4 4 (holds ERQ d))
+    ∷ cell 0x10 4 (bytesIn 0 4 (holds EEI d))
+    ∷ cell 0x14 4 (bytesIn 4 4 (holds EEI d))
+    ∷ cell 0x20 4 (bytesIn 0 4 (holds INT d))
+    ∷ cell 0x24 4 (bytesIn 4 4 (holds INT d))
+    ∷ cell 0x28 4 (bytesIn 0 4 (holds ERR d))
+    ∷ cell 0x2C 4 (bytesIn 4 4 (holds ERR d))
     ∷ cell 0x30 4 0
     ∷ cell 0x34 4 0
     ∷ []

@@ -3,7 +3,8 @@ use mathlib.Core.Bool.{Bool, cond, not, _&&_, _||_}
 use Prim.Native.Nat.{ℕ, zero, suc, _+_, _-_, _*_, _^_, min}
 use lib.Bits.{bitAnd, bitOr}
 use lib.Dec.{eqb, leb, ltb}
-use Rattle.rules.specs.Act.{Act, done, nothing, endless, ask, put, change, when, _>>=_, _>>_, ERQ, KICK, DEFERRED, DEADLINE, STANDING, BUSY, MAJORS, PENDING}
+use Rattle.rules.specs.Act.{Act, done, nothing, endless, ask, put, change, when, _>>=_, _>>_, BUSY, MAJORS, PENDING}
+use Rattle.rules.specs.Scalars.{ERQ, KICK, DEFERRED, DEADLINE, STANDING}
 use Rattle.rules.specs.Words.{has, gain, lose, lowest}
 use Rattle.rules.specs.Minor.{descriptor, pass, START, DONE}
 

@@ -12,16 +12,8 @@ pub record Controller : Type 0 where
   pub levels : List ℕ
 
 pub record Device : Type 0 where
-  pub cr : ℕ
-  pub erq : ℕ
-  pub eei : ℕ
-  pub int : ℕ
-  pub err : ℕ
-  pub kick : ℕ
-  pub deferred : ℕ
-  pub deadline : ℕ
-  pub level : ℕ
-  pub standing : ℕ
+  -- the numbers that stand alone, by document 01's numbers 0 to 9 (`Scalars`)
+  pub scalars : List ℕ
   -- the three controllers
   pub controllers : List Controller
   -- by channel: busy until, majors, pending counts

@@ -1,6 +1,7 @@
 -- What a device as code holds it stands for. Today the two are alike, field by field. Assumes nothing.
 use mathlib.Core.List.{map}
 use Rattle.rules.specs.State.{Controller, Device}
+use Rattle.rules.specs.Scalars.{viewScalars}
 use Rattle.rules.specs.declared.Controller.{Controller as HeldController}
 use Rattle.rules.specs.declared.Device.{Device as HeldDevice}
 
@@ -9,16 +10,7 @@ viewController k = record { masks = k .masks; forced = k .forced; lines = k .lin
 
 abbrev pub view : HeldDevice → Device
 view d = record {
-  cr = d .cr;
-  erq = d .erq;
-  eei = d .eei;
-  int = d .int;
-  err = d .err;
-  kick = d .kick;
-  deferred = d .deferred;
-  deadline = d .deadline;
-  level = d .level;
-  standing = d .standing;
+  scalars = viewScalars (d .scalars);
   controllers = map viewController (d .controllers);
   busy = d .busy;
   majors = d .majors;

@@ -37,6 +37,7 @@ pub const DONE: usize = 7;
 pub const LINE: usize = 35;
 
 // One interrupt controller: its masks (IMR), forced sources (FRC), lines, ICONFIG and its 64 level bytes.
+#[repr(C)]
 pub struct Controller {
     pub masks: u64,
     pub forced: u64,
@@ -45,8 +46,9 @@ pub struct Controller {
     pub config: u16,
 }
 
-// The whole device. Wide numbers stand first, then arrays, then narrow numbers: the order that copies best.
-pub struct Device {
+// The numbers of a device that stand alone: wide ones first, then narrow ones.
+#[repr(C)]
+pub struct Scalars {
     pub erq: u64,
     pub eei: u64,
     pub int: u64,
@@ -55,14 +57,20 @@ pub struct Device {
     pub deferred: u64,
     pub deadline: u64,
     pub standing: u64,
+    pub cr: u32,
+    pub level: u8,
+}
+
+// The whole device. Its numbers stand first, then arrays: the order that copies best.
+#[repr(C)]
+pub struct Device {
+    pub scalars: Scalars,
     pub table: [u8; 2048],
     pub busy: [u64; 64],
     pub majors: [u64; 64],
     pub taken: [u64; 192],
     pub pending: [u32; 64],
     pub controllers: [Controller; 3],
-    pub cr: u32,
-    pub level: u8,
     pub ignore_masks: bool,
 }
 

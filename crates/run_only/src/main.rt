@@ -22,7 +22,7 @@ fn example() -> Device {
     describe(&mut table);
     let mut d = device::fresh(false);
     d.table = table;
-    d.kick = 1;
+    d.scalars.kick = 1;
     d
 }
 

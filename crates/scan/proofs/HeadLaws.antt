@@ -1,6 +1,6 @@
 -- What a record's head says of its value, by cases: the laws that the proofs of the heads cite. Assumes nothing.
 use mathlib.Core.Bool.{Bool, true, false, _&&_, _||_}
-use mathlib.Core.List.{List}
+use mathlib.Core.List.{List, [], _∷_}
 use mathlib.Core.Option.{Option, none, some}
 use mathlib.Core.Path.{_≡_, refl, sym, ap, _∙_}
 use Prim.Native.Nat.{ℕ, zero, suc, _+_, _/_, _^_, _≤_}
@@ -9,12 +9,13 @@ use native.Mathlib.Nat.{add-zero}
 use borrow.Author.Tests.{eqb-true, eq-eqb, ne-eqb}
 use lib.Dec.{eqb, ltb}
 use lib.ListN.{getD}
-use Rattle.rules.specs.Act.{Space, window, table, Field, CR, ERQ, EEI, INT, ERR, KICK, DEFERRED, DEADLINE, LEVEL, STANDING, MASKS, FORCED, LINES, CONFIG, BUSY, MAJORS, PENDING, SOURCE, TAKEN}
+use Rattle.rules.specs.Act.{Space, window, table, Field, SCALAR, MASKS, FORCED, LINES, CONFIG, BUSY, MAJORS, PENDING, SOURCE, TAKEN}
+use Rattle.rules.specs.Scalars.{scalarBits}
 use Rattle.rules.specs.Bytes.{number, part}
 use Rattle.rules.specs.Carry.{Machine, legal, there}
 use Rattle.rules.specs.Fields.{bitsOf, fieldAt, fitsSome}
 use Rattle.rules.specs.TakeBack.{marked, kind, width, place, soundStore, soundField, soundKind}
-use Rattle.rules.proofs.BoolLaws.{or-either}
+use Rattle.rules.proofs.BoolLaws.{and-left, and-right, or-either}
 use Rattle.rules.proofs.BytesLaws.{getD-part, part-part}
 use Rattle.device.specs.Spots.{bitsSome, bitsAt}
 use Rattle.device.proofs.Laws.{fits-none}
@@ -59,19 +60,23 @@ module _ (base : ℕ) (m : Machine) (sp : Space) (w a : ℕ) where
 
 -- ---- fields
 
--- a field's bits make whole bytes
+-- the bits of each number that stands alone make whole bytes: a test that is computed
+whole-scalars : (i : ℕ) → 256 ^ (getD scalarBits i 64 / 8) ≡ 2 ^ getD scalarBits i 64
+whole-scalars i = each scalarBits refl i
+  where
+    whole : List ℕ → Bool
+    whole [] = true
+    whole (b ∷ bs) = eqb (256 ^ (b / 8)) (2 ^ b) && whole bs
+
+    each : (bs : List ℕ) → whole bs ≡ true → (i : ℕ) → 256 ^ (getD bs i 64 / 8) ≡ 2 ^ getD bs i 64
+    each [] e i = refl
+    each (b ∷ bs) e zero = eqb-true (256 ^ (b / 8)) (2 ^ b) (and-left (eqb (256 ^ (b / 8)) (2 ^ b)) (whole bs) e)
+    each (b ∷ bs) e (suc i) = each bs (and-right (eqb (256 ^ (b / 8)) (2 ^ b)) (whole bs) e) i
+
+-- and so do every field's
 whole-bytes : (f : Field) → 256 ^ (bitsOf f / 8) ≡ 2 ^ bitsOf f
 unfolding bitsOf
-whole-bytes CR = refl
-whole-bytes ERQ = refl
-whole-bytes EEI = refl
-whole-bytes INT = refl
-whole-bytes ERR = refl
-whole-bytes KICK = refl
-whole-bytes DEFERRED = refl
-whole-bytes DEADLINE = refl
-whole-bytes LEVEL = refl
-whole-bytes STANDING = refl
+whole-bytes (SCALAR i) = whole-scalars i
 whole-bytes (MASKS c) = refl
 whole-bytes (FORCED c) = refl
 whole-bytes (LINES c) = refl

@@ -11,10 +11,11 @@ use lib.Dec.{leb}
 use lib.ListN.{getD, set}
 use Rattle.rules.specs.Act.{BUSY, put, when, _>>=_, acts}
 use Rattle.rules.specs.Carry.{Out, ok, withDevice, go, Lent}
-use Rattle.rules.specs.Fields.{bitsOf}
+use Rattle.rules.specs.Fields.{bitsOf, holds}
 use Rattle.rules.specs.Run.{over, release}
 use Rattle.rules.specs.Words.{has, gain}
 use Rattle.rules.specs.With.{withBusy}
+use Rattle.rules.specs.Scalars.{ERQ}
 use Rattle.rules.specs.State.{Device}
 use Rattle.act.specs.Does.{beside}
 use Rattle.turns.specs.Frees.{freed, freeing}
@@ -50,17 +51,17 @@ module _ (now erq ch m : ℕ) (b : List ℕ) {o : Bool} (asked : o ≡ over now 
 
 module _ (base : ℕ) (lent : Lent) (mem used free : List ℕ) (now : ℕ) where
   release-turn : (d : Device) (b : List ℕ) (n ch m : ℕ)
-      → go base lent (release now (suc n) ch m) (beside mem used free (withBusy d b)) ≡ go base lent (release now n (suc ch) (freeing now (d .erq) b ch m)) (beside mem used free (withBusy d (freed now b ch)))
+      → go base lent (release now (suc n) ch m) (beside mem used free (withBusy d b)) ≡ go base lent (release now n (suc ch) (freeing now (holds ERQ d) b ch m)) (beside mem used free (withBusy d (freed now b ch)))
   unfolding release go acts freeing freed withDevice bitsOf
   release-turn d b n ch m = by (over now (getD b ch 0)) refl
     where
       by : (o : Bool) → over now (getD b ch 0) ≡ o
-          → go base lent (when (over now (getD b ch 0)) (put (BUSY ch) 0) >>= (λ _. release now n (suc ch) (cond (over now (getD b ch 0) && has (d .erq) ch) (gain m ch) m))) (beside mem used free (withBusy d b))
-          ≡ go base lent (release now n (suc ch) (cond (over now (getD b ch 0) && has (d .erq) ch) (gain m ch) m)) (beside mem used free (withBusy d (cond (over now (getD b ch 0)) (set b ch 0) b)))
+          → go base lent (when (over now (getD b ch 0)) (put (BUSY ch) 0) >>= (λ _. release now n (suc ch) (cond (over now (getD b ch 0) && has (holds ERQ d) ch) (gain m ch) m))) (beside mem used free (withBusy d b))
+          ≡ go base lent (release now n (suc ch) (cond (over now (getD b ch 0) && has (holds ERQ d) ch) (gain m ch) m)) (beside mem used free (withBusy d (cond (over now (getD b ch 0)) (set b ch 0) b)))
       by true e = rw e
       by false e = rw e
 
-  module _ (erq : ℕ) (d : Device) (enabled : d .erq ≡ erq) (whole : Out ℕ) (b : List ℕ) (ch m : ℕ)
+  module _ (erq : ℕ) (d : Device) (enabled : holds ERQ d ≡ erq) (whole : Out ℕ) (b : List ℕ) (ch m : ℕ)
       (rest : go base lent (release now (64 - ch) ch m) (beside mem used free (withBusy d b)) ≡ whole)
     where
       pub release-again : ch < 64 → (m′ : ℕ) (b′ : List ℕ) → m′ ≡ freeing now erq b ch m → b′ ≡ freed now b ch

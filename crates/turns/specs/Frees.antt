@@ -8,6 +8,8 @@ use Rattle.rules.specs.Carry.{ok, go, Lent}
 use Rattle.rules.specs.Run.{over, release}
 use Rattle.rules.specs.Words.{has, gain}
 use Rattle.rules.specs.With.{withBusy}
+use Rattle.rules.specs.Fields.{holds}
+use Rattle.rules.specs.Scalars.{ERQ}
 use Rattle.rules.specs.State.{Device}
 use Rattle.act.specs.Does.{beside}
 
@@ -22,5 +24,5 @@ freeing now erq busy ch m = cond (over now (getD busy ch 0) && has erq ch) (gain
 -- all of them are freed, and those that have ERQ set are the answer
 abbrev pub Frees : ℕ → ℕ → ℕ → List ℕ → List ℕ → Type 0
 Frees now erq r b b′ =
-    (base : ℕ) (lent : Lent) (mem used free : List ℕ) (d : Device) → d .erq ≡ erq
+    (base : ℕ) (lent : Lent) (mem used free : List ℕ) (d : Device) → holds ERQ d ≡ erq
     → go base lent (release now 64 0 0) (beside mem used free (withBusy d b)) ≡ ok r (beside mem used free (withBusy d b′))

@@ -4,7 +4,6 @@ use act::Flow;
 use act::Step;
 use channel::Line;
 use rules::LINE;
-use rules::Refusal;
 use rules::START;
 ghost use mathlib.Core.Path.{_≡_};
 ghost use mathlib.Core.List.{List};
@@ -14,43 +13,9 @@ ghost use Rattle.rules.specs.Carry.{lending};
 ghost use Rattle.rules.specs.Run.{serveLine, serve, turn, runAll, over};
 ghost use Rattle.rules.specs.Words.{lowest};
 ghost use Rattle.turns.specs.Frees.{freed, freeing, Frees};
-ghost use Rattle.turns.specs.Turns.{Turns, atStep};
+ghost use Rattle.turns.specs.Turns.{Turns};
 
 // ---- a turn
-
-// What a turn changes besides arrays: what a pass does, DEFERRED, the deadline.
-pub struct Course {
-    pub flow: Flow,
-    pub deferred: u64,
-    pub deadline: u64,
-}
-
-// Still going, or refused: once refused, nothing more happens.
-pub enum Turned {
-    On(Course),
-    Off(Refusal, Course),
-}
-
-// The turn with the step that its passes ended with.
-fn at_step(t: Course, s: Step) -> Turned
-    ensures { λ r. ⌜ r ≡ atStep t s ⌝ }
-{
-    match s {
-        Step::Going(flow) => Turned::On(Course {
-            flow,
-            deferred: t.deferred,
-            deadline: t.deadline,
-        }),
-        Step::Refused(n, flow) => Turned::Off(
-            n,
-            Course {
-                flow,
-                deferred: t.deferred,
-                deadline: t.deadline,
-            },
-        ),
-    }
-}
 
 fn earlier(a: u64, b: u64) -> u64
     ensures { λ r. ⌜ r ≡ min a b ⌝ }
@@ -60,38 +25,31 @@ fn earlier(a: u64, b: u64) -> u64
 
 // "Then busy until = now + sum x pace, and a deadline later than that falls to it. It spends no pending."
 pub fn serve_line(
-    t: Course,
+    t: Flow,
     time: u64,
     pace: u64,
     base: u32,
     window: &mut [u8],
     table: &mut [u8; 2048],
-    majors: &mut [u64; 64],
     busy: &mut [u64; 64],
+    majors: &mut [u64; 64],
     staging: &mut [u8],
     journal: &mut [u8],
-) -> Turned
+) -> Step
     requires { ⌜ (time ≤ 2 ^ 62) × (pace ≤ 1000000) ⌝ }
-    ensures { λ r. ⌜ ((p : List ℕ) (standing : ℕ) → Turns (serveLine time pace) base (lending (length (now (staging .entry)))) standing t r (now (window .entry)) (now (window .exit)) (now (journal .entry)) (now (journal .exit)) (now (table .entry)) (now (table .exit)) (now (majors .entry)) (now (majors .exit)) p p (now (busy .entry)) (now (busy .exit))) ⌝ }
+    ensures { λ r. ⌜ ((p : List ℕ) → Turns (serveLine time pace) base (lending (length (now (staging .entry)))) t r (now (window .entry)) (now (window .exit)) (now (journal .entry)) (now (journal .exit)) (now (table .entry)) (now (table .exit)) (now (busy .entry)) (now (busy .exit)) (now (majors .entry)) (now (majors .exit)) p p) ⌝ }
 {
-    let c = t.flow;
-    let l = channel::line_loop(c, base, window, table, majors, staging, journal);
+    let l = channel::line_loop(t, base, window, table, majors, staging, journal);
     match l {
-        Line::Broken(n, flow) => Turned::Off(
-            n,
-            Course {
-                flow,
-                deferred: t.deferred,
-                deadline: t.deadline,
-            },
-        ),
+        Line::Broken(n, flow) => Step::Refused(n, flow),
         Line::Sum(sum, flow) => {
             let until = time + sum * pace;
             busy[LINE] = until;
-            Turned::On(Course {
-                flow,
-                deferred: t.deferred,
-                deadline: earlier(t.deadline, until),
+            let mut n = flow.scalars;
+            n.deadline = earlier(n.deadline, until);
+            Step::Going(Flow {
+                scalars: n,
+                at: flow.at,
             })
         }
     }
@@ -99,31 +57,28 @@ pub fn serve_line(
 
 // "START runs minor loops [..] Otherwise ERQ and a request are needed."
 pub fn serve(
-    t: Course,
-    standing: u64,
+    t: Flow,
     time: u64,
     pace: u64,
     base: u32,
     window: &mut [u8],
     table: &mut [u8; 2048],
+    busy: &mut [u64; 64],
     majors: &mut [u64; 64],
     pending: &mut [u32; 64],
-    busy: &mut [u64; 64],
     ch: usize,
     staging: &mut [u8],
     journal: &mut [u8],
-) -> Turned
+) -> Step
     requires { ⌜ (ch < 64) × (time ≤ 2 ^ 62) × (pace ≤ 1000000) ⌝ }
-    ensures { λ r. ⌜ Turns (serve time pace ch) base (lending (length (now (staging .entry)))) standing t r (now (window .entry)) (now (window .exit)) (now (journal .entry)) (now (journal .exit)) (now (table .entry)) (now (table .exit)) (now (majors .entry)) (now (majors .exit)) (now (pending .entry)) (now (pending .exit)) (now (busy .entry)) (now (busy .exit)) ⌝ }
+    ensures { λ r. ⌜ Turns (serve time pace ch) base (lending (length (now (staging .entry)))) t r (now (window .entry)) (now (window .exit)) (now (journal .entry)) (now (journal .exit)) (now (table .entry)) (now (table .exit)) (now (busy .entry)) (now (busy .exit)) (now (majors .entry)) (now (majors .exit)) (now (pending .entry)) (now (pending .exit)) ⌝ }
 {
-    let c = t.flow;
     if words::has_bit(channel::csr_of(table, ch), START) {
         let before = majors[ch];
-        let s = channel::start_loop(c, base, window, table, majors, ch, before, staging, journal);
-        return at_step(t, s);
+        return channel::start_loop(t, base, window, table, majors, ch, before, staging, journal);
     }
-    if !channel::offered(c.erq, standing, pending, ch) {
-        return Turned::On(t);
+    if !channel::offered(t.scalars.erq, t.scalars.standing, pending, ch) {
+        return Step::Going(t);
     }
     if ch == LINE {
         return serve_line(
@@ -133,15 +88,14 @@ pub fn serve(
             base,
             window,
             table,
-            majors,
             busy,
+            majors,
             staging,
             journal,
         );
     }
-    let s = channel::request_loop(
-        c,
-        standing,
+    channel::request_loop(
+        t,
         base,
         window,
         table,
@@ -150,60 +104,50 @@ pub fn serve(
         ch,
         staging,
         journal,
-    );
-    at_step(t, s)
+    )
 }
 
 // The channel "goes first" from KICK. "A channel busy past `now` moves to DEFERRED."
 pub fn turn(
-    t: Course,
-    standing: u64,
+    t: Flow,
     time: u64,
     pace: u64,
     base: u32,
     window: &mut [u8],
     table: &mut [u8; 2048],
+    busy: &mut [u64; 64],
     majors: &mut [u64; 64],
     pending: &mut [u32; 64],
-    busy: &mut [u64; 64],
     ch: usize,
     staging: &mut [u8],
     journal: &mut [u8],
-) -> Turned
+) -> Step
     requires { ⌜ (ch < 64) × (time ≤ 2 ^ 62) × (pace ≤ 1000000) ⌝ }
-    ensures { λ r. ⌜ Turns (turn time pace ch) base (lending (length (now (staging .entry)))) standing t r (now (window .entry)) (now (window .exit)) (now (journal .entry)) (now (journal .exit)) (now (table .entry)) (now (table .exit)) (now (majors .entry)) (now (majors .exit)) (now (pending .entry)) (now (pending .exit)) (now (busy .entry)) (now (busy .exit)) ⌝ }
+    ensures { λ r. ⌜ Turns (turn time pace ch) base (lending (length (now (staging .entry)))) t r (now (window .entry)) (now (window .exit)) (now (journal .entry)) (now (journal .exit)) (now (table .entry)) (now (table .exit)) (now (busy .entry)) (now (busy .exit)) (now (majors .entry)) (now (majors .exit)) (now (pending .entry)) (now (pending .exit)) ⌝ }
 {
-    let c = t.flow;
-    let flow = Flow {
-        cr: c.cr,
-        erq: c.erq,
-        int: c.int,
-        kick: words::lose_bit(c.kick, ch),
-        at: c.at,
-    };
+    let mut n = t.scalars;
+    n.kick = words::lose_bit(n.kick, ch);
     if time < busy[ch] {
-        return Turned::On(Course {
-            flow,
-            deferred: words::gain_bit(t.deferred, ch),
-            deadline: t.deadline,
+        n.deferred = words::gain_bit(n.deferred, ch);
+        return Step::Going(Flow {
+            scalars: n,
+            at: t.at,
         });
     }
-    let now = Course {
-        flow,
-        deferred: t.deferred,
-        deadline: t.deadline,
+    let gone = Flow {
+        scalars: n,
+        at: t.at,
     };
     serve(
-        now,
-        standing,
+        gone,
         time,
         pace,
         base,
         window,
         table,
+        busy,
         majors,
         pending,
-        busy,
         ch,
         staging,
         journal,
@@ -222,53 +166,50 @@ fn next_channel(kick: u64) -> usize
 
 // "At most 4,096 turns": the next channel "goes first".
 pub fn run_dma_inner(
-    t: Course,
-    standing: u64,
+    t: Flow,
     time: u64,
     pace: u64,
     base: u32,
     window: &mut [u8],
     table: &mut [u8; 2048],
+    busy: &mut [u64; 64],
     majors: &mut [u64; 64],
     pending: &mut [u32; 64],
-    busy: &mut [u64; 64],
     staging: &mut [u8],
     journal: &mut [u8],
-) -> Turned
+) -> Step
     requires { ⌜ (time ≤ 2 ^ 62) × (pace ≤ 1000000) ⌝ }
-    ensures { λ r. ⌜ Turns (runAll time pace) base (lending (length (now (staging .entry)))) standing t r (now (window .entry)) (now (window .exit)) (now (journal .entry)) (now (journal .exit)) (now (table .entry)) (now (table .exit)) (now (majors .entry)) (now (majors .exit)) (now (pending .entry)) (now (pending .exit)) (now (busy .entry)) (now (busy .exit)) ⌝ }
+    ensures { λ r. ⌜ Turns (runAll time pace) base (lending (length (now (staging .entry)))) t r (now (window .entry)) (now (window .exit)) (now (journal .entry)) (now (journal .exit)) (now (table .entry)) (now (table .exit)) (now (busy .entry)) (now (busy .exit)) (now (majors .entry)) (now (majors .exit)) (now (pending .entry)) (now (pending .exit)) ⌝ }
 {
     let mut s = t;
     let mut left: usize = 4096;
     while 0 < left {
-        let c = s.flow;
-        let kick = c.kick;
+        let kick = s.scalars.kick;
         if kick == 0 {
-            return Turned::On(s);
+            return Step::Going(s);
         }
         let ch = next_channel(kick);
         let r = turn(
             s,
-            standing,
             time,
             pace,
             base,
             window,
             table,
+            busy,
             majors,
             pending,
-            busy,
             ch,
             staging,
             journal,
         );
-        let Turned::On(next) = r else {
+        let Step::Going(next) = r else {
             return r;
         };
         s = next;
         left -= 1;
     }
-    Turned::On(s)
+    Step::Going(s)
 }
 
 // ---- channels whose busy time is over

@@ -7,10 +7,10 @@ use Prim.Native.Nat.{ℕ}
 use borrow.Author.Tests.{eqb-false}
 use lib.ListN.{getD, replicate}
 use Rattle.rules.specs.State.{Device}
-use Rattle.rules.specs.Act.{CR, DEFERRED, KICK}
+use Rattle.rules.specs.Scalars.{CR, DEFERRED, KICK, STANDING}
 use Rattle.rules.specs.Calls.{fresh, ToldRead, toldRead, afterRead}
 use Rattle.rules.specs.Carry.{endLine}
-use Rattle.rules.specs.Fields.{withField, fieldsOf}
+use Rattle.rules.specs.Fields.{holds, withField, fieldsOf}
 use Rattle.rules.proofs.Bench.{readNumber}
 use Rattle.rules.proofs.CallLaws.{read-parts}
 use Rattle.rules.proofs.Marked.{tcd, window₀, device₀, ringing}
@@ -28,7 +28,7 @@ write-wall = record {
   accepted = refl;
   accepted₂ = refl;
   differ = λ e. eqb-false 32 48 refl (ap (λ l. getD l 3 0) e);
-  changes = λ e. eqb-false 0x80 0 refl (ap (λ d. d .cr) e);
+  changes = λ e. eqb-false 0x80 0 refl (ap (holds CR) e);
 }
 
 -- a standing request; and masks that are as they were
@@ -42,7 +42,7 @@ inputs-wall = record {
   accepted = refl;
   accepted₂ = refl;
   differ = λ e. eqb-false 32 16 refl (ap (λ l. getD l 3 0) e);
-  changes = λ e. eqb-false 1 0 refl (ap (λ d. d .standing) e);
+  changes = λ e. eqb-false 1 0 refl (ap (holds STANDING) e);
 }
 
 -- a count of 7 for channel 63; and one of 0, as it was
@@ -70,7 +70,7 @@ run-wall = record {
   accepted = refl;
   accepted₂ = refl;
   differ = λ e. eqb-false 192 16 refl (ap (λ l. getD l 3 0) e);
-  changes = λ e. eqb-false 0 1 refl (ap (λ d. d .kick) e);
+  changes = λ e. eqb-false 0 1 refl (ap (holds KICK) e);
 }
 
 -- a deferred channel that requests is offered again, and moves a word; and a service with nothing to do
@@ -84,7 +84,7 @@ service-wall = record {
   accepted = refl;
   accepted₂ = refl;
   differ = λ e. eqb-false 208 16 refl (ap (λ l. getD l 3 0) e);
-  changes = λ e. eqb-false 0 1 refl (ap (λ d. d .deferred) e);
+  changes = λ e. eqb-false 0 1 refl (ap (holds DEFERRED) e);
 }
 
 -- document 01's P10: level 7, vector 255, whose taken count rises; and nothing is found
@@ -112,7 +112,7 @@ back-wall = record {
   accepted = refl;
   accepted₂ = refl;
   differ = λ e. eqb-false 0 16 refl (ap (λ l. getD l 3 0) e);
-  changes = λ e. eqb-false 1 0 refl (ap (λ d. d .kick) e);
+  changes = λ e. eqb-false 1 0 refl (ap (holds KICK) e);
 }
 
 -- ---- a register read: CR of two devices

@@ -9,7 +9,7 @@ use native.Mathlib.Omega.{arith}
 use borrow.Author.Tests.{eqb-false, ltb-true, ltb-false}
 use lib.Dec.{ltb}
 use lib.ListN.{replicate, getD}
-use Rattle.rules.specs.Act.{DEFERRED, KICK}
+use Rattle.rules.specs.Scalars.{DEFERRED, KICK}
 use Rattle.rules.specs.Calls.{Told, windowTold}
 use Rattle.rules.specs.Fields.{withField}
 use Rattle.rules.proofs.Marked.{tcd}

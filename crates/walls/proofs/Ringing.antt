@@ -4,7 +4,8 @@ use mathlib.Core.List.{List, [], _∷_}
 use mathlib.Core.Path.{_≡_, refl}
 use Prim.Native.Nat.{ℕ, _^_}
 use Rattle.rules.specs.State.{Device}
-use Rattle.rules.specs.Act.{INT, LINES, SOURCE}
+use Rattle.rules.specs.Act.{LINES, SOURCE}
+use Rattle.rules.specs.Scalars.{INT}
 use Rattle.rules.specs.Calls.{fresh}
 use Rattle.rules.specs.Fields.{withField}
 use Rattle.walls.specs.Wrong.{answerOf, hears}

@@ -5,9 +5,10 @@ use mathlib.Core.Path.{_≡_, refl}
 use Prim.Native.Nat.{ℕ, _-_, _^_}
 use lib.ListN.{replicate, getD}
 use Rattle.rules.specs.State.{Device}
-use Rattle.rules.specs.Act.{BUSY, DEADLINE, KICK}
+use Rattle.rules.specs.Act.{BUSY}
+use Rattle.rules.specs.Scalars.{DEADLINE, DEFERRED, KICK}
 use Rattle.rules.specs.Calls.{fresh, deviceTold, windowTold}
-use Rattle.rules.specs.Fields.{withField}
+use Rattle.rules.specs.Fields.{holds, withField}
 use Rattle.rules.specs.Minor.{tcdBytes}
 use Rattle.rules.specs.With.{withTable}
 use Rattle.rules.proofs.Marked.{tcd}
@@ -28,7 +29,7 @@ lowest-first = refl
 
 -- a channel busy past `now` moves to DEFERRED: KICK and DEFERRED
 unfoldable pub waiting : Device → List ℕ
-waiting d = d .kick ∷ d .deferred ∷ []
+waiting d = holds KICK d ∷ holds DEFERRED d ∷ []
 
 pub busy-deferred : waiting (deviceTold (runs (9, 0) (lent (withField (BUSY 1) 10 rivals) (0x11 ∷ 0x22 ∷ 0 ∷ 0 ∷ []) []))) ≡ 0 ∷ 2 ∷ []
 unfolding computed rivals waiting
@@ -47,7 +48,7 @@ line deadline =
 
 -- busy time, deadline, pending count and majors of channel 35
 unfoldable pub paced : Device → List ℕ
-paced d = getD (d .busy) 35 0 ∷ d .deadline ∷ getD (d .pending) 35 0 ∷ getD (d .majors) 35 0 ∷ []
+paced d = getD (d .busy) 35 0 ∷ holds DEADLINE d ∷ getD (d .pending) 35 0 ∷ getD (d .majors) 35 0 ∷ []
 
 -- both passes up to DONE, for one request, of which none is spent; busy for 8 bytes at pace 3; a later deadline falls to that
 pub line-paced : paced (deviceTold (runs (100, 3) (line (2 ^ 64 - 1)))) ≡ 124 ∷ 124 ∷ 5 ∷ 1 ∷ []

@@ -9,6 +9,8 @@ use lib.ListN.{replicate, getD, length}
 use Rattle.rules.specs.declared.Heard.the-variants as Heard
 use Rattle.rules.specs.Calls.{fresh, Told, told, deviceTold, windowTold}
 use Rattle.rules.specs.Carry.{line, endLine}
+use Rattle.rules.specs.Fields.{holds}
+use Rattle.rules.specs.Scalars.{KICK}
 use Rattle.walls.specs.Wrong.{Given, UndoesOneRecord, takesBack}
 use Rattle.walls.specs.Examples.{standing, computed}
 
@@ -20,7 +22,7 @@ module _ (program : Unit {0} → Given → Told) (meets : program tt standing �
     where
       by-part : (windowTold (program tt standing) ≡ standing .window) ⊎ (deviceTold (program tt standing) ≡ standing .device) → ⊥
       by-part (inl e) = eqb-false 0 0x11 refl (ap (λ t. getD (windowTold t) 4 0) (sym meets) ∙ ap (λ w. getD w 4 0) e)
-      by-part (inr e) = eqb-false 1 0 refl (ap (λ t. deviceTold t .kick) (sym meets) ∙ ap (λ d. d .kick) e)
+      by-part (inr e) = eqb-false 1 0 refl (ap (λ t. holds KICK (deviceTold t)) (sym meets) ∙ ap (holds KICK) e)
 
 -- ---- damage: 13, and all is as it was
 

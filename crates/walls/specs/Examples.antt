@@ -7,7 +7,8 @@ use lib.Count.{trailingZeros}
 use lib.ListN.{replicate}
 use Rattle.rules.specs.State.{Device}
 use Rattle.rules.specs.declared.Tcd.{Tcd}
-use Rattle.rules.specs.Act.{acts, Field, ERQ, KICK, PENDING}
+use Rattle.rules.specs.Act.{acts, Field, PENDING}
+use Rattle.rules.specs.Scalars.{ERQ, KICK}
 use Rattle.rules.specs.Bytes.{bytesRules}
 use Rattle.rules.specs.Calls.{calls, fresh, deviceTold, windowTold, journalTold}
 use Rattle.rules.specs.Carry.{carry}

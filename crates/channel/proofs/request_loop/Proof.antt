@@ -13,21 +13,21 @@ use Rattle.channel.proofs.request_loop.Statement.{statement}
 use Rattle.channel.proofs.request_loop.Tie as tie
 
 abbrev Inv-loop : tie.InvT-loop
-Inv-loop standing base window₀ table₀ majors₀ pending₀ ch staging₀ journal₀ f₀ left₀ window table majors pending staging journal f left =
+Inv-loop base window₀ table₀ majors₀ pending₀ ch staging₀ journal₀ f₀ left₀ window table majors pending staging journal f left =
     (length window ≡ length window₀)
     × (length staging ≡ length staging₀)
     × (length journal ≡ length journal₀)
-    × ((d : Device) → d .standing ≡ standing
+    × ((d : Device)
     → go base (lending (length staging₀)) (requestLoop left ch) (world (withPending d pending) f window journal table majors)
     ≡ go base (lending (length staging₀)) (requestLoop requestPasses ch) (world (withPending d pending₀) f₀ window₀ journal₀ table₀ majors₀))
 
 abbrev μ-loop : tie.MeasureT-loop
-μ-loop standing base window₀ table₀ majors₀ pending₀ ch staging₀ journal₀ f₀ left₀ window table majors pending staging journal f left =
+μ-loop base window₀ table₀ majors₀ pending₀ ch staging₀ journal₀ f₀ left₀ window table majors pending staging journal f left =
     left
 
 loop-holds : tie.Need-loop-holds Inv-loop μ-loop
 unfolding requestPasses
-loop-holds c = (refl, refl, refl, λ d h. refl)
+loop-holds c = (refl, refl, refl, λ d. refl)
 
 offered-requires : tie.Need-offered-requires Inv-loop μ-loop
 offered-requires c κs = search needs
@@ -45,7 +45,7 @@ returns : tie.Need-returns Inv-loop μ-loop
 returns c =
     let a = c .before .before .before .before .before .before .before .before .args in
     let l = c .before .before .before .before .loop in
-    request-stop (a .base) _ (a .standing) (a .ch) _ (l .f) _ _ _ _ _ _ (l .inv .3) (c .before .before .before .loop-test .taken) (c .before .offered .ensures) (not-true _ (c .if1 .taken))
+    request-stop (a .base) _ (a .ch) _ (l .f) _ _ _ _ _ _ (l .inv .3) (c .before .before .before .loop-test .taken) (c .before .offered .ensures) (not-true _ (c .if1 .taken))
 
 spend-requires : tie.Need-spend-requires Inv-loop μ-loop
 spend-requires c κs = search needs
@@ -72,7 +72,7 @@ returns-2 : tie.Need-returns-2 Inv-loop μ-loop
 returns-2 c =
     let a = c .before .before .before .before .before .before .before .before .before .before .before .before .before .before .before .before .before .before .before .before .before .before .before .before .args in
     let l = c .before .before .before .before .before .before .before .before .before .before .before .before .before .before .before .before .before .before .before .before .loop in
-    request-idle (a .base) _ (a .standing) (a .ch) _ (l .f) _ _ _ _ _ _ (l .inv .3) (c .before .before .before .before .before .before .before .before .before .before .before .before .before .before .before .before .before .before .before .loop-test .taken) (c .before .before .before .before .before .before .before .before .before .before .before .before .before .before .before .before .before .offered .ensures) (not-false _ (c .before .before .before .before .before .before .before .before .before .before .before .before .before .before .before .before .if1 .left)) _ (c .before .before .before .before .before .before .before .before .before .before .before .before .before .before .spend .ensures .0) (c .before .before .before .before .before .before .before .before .before .before .before .before .before .before .spend .ensures .1) _ (ap lending (l .inv .1)) _ _ _ _ _ (c .before .before .before .before .before .before .before .before .dma-minor .ensures) (c .enum-told .given .1)
+    request-idle (a .base) _ (a .ch) _ (l .f) _ _ _ _ _ _ (l .inv .3) (c .before .before .before .before .before .before .before .before .before .before .before .before .before .before .before .before .before .before .before .loop-test .taken) (c .before .before .before .before .before .before .before .before .before .before .before .before .before .before .before .before .before .offered .ensures) (not-false _ (c .before .before .before .before .before .before .before .before .before .before .before .before .before .before .before .before .if1 .left)) _ (c .before .before .before .before .before .before .before .before .before .before .before .before .before .before .spend .ensures .0) (c .before .before .before .before .before .before .before .before .before .before .before .before .before .before .spend .ensures .1) _ (ap lending (l .inv .1)) _ _ _ _ _ (c .before .before .before .before .before .before .before .before .dma-minor .ensures) (c .enum-told .given .1)
 
 enum-known-s-2 : tie.Need-enum-known-s-2 Inv-loop μ-loop
 enum-known-s-2 c = search needs
@@ -93,19 +93,19 @@ returns-3 : tie.Need-returns-3 Inv-loop μ-loop
 returns-3 c =
     let a = c .before .before .before .before .before .before .before .before .before .before .before .before .before .before .before .before .before .before .before .before .before .before .before .before .before .before .before .args in
     let l = c .before .before .before .before .before .before .before .before .before .before .before .before .before .before .before .before .before .before .before .before .before .before .before .loop in
-    request-off (a .base) _ (a .standing) (a .ch) _ (l .f) _ _ _ _ _ _ (l .inv .3) (c .before .before .before .before .before .before .before .before .before .before .before .before .before .before .before .before .before .before .before .before .before .before .loop-test .taken) (c .before .before .before .before .before .before .before .before .before .before .before .before .before .before .before .before .before .before .before .before .offered .ensures) (not-false _ (c .before .before .before .before .before .before .before .before .before .before .before .before .before .before .before .before .before .before .before .if1 .left)) _ (c .before .before .before .before .before .before .before .before .before .before .before .before .before .before .before .before .before .spend .ensures .0) (c .before .before .before .before .before .before .before .before .before .before .before .before .before .before .before .before .before .spend .ensures .1) _ (ap lending (l .inv .1)) _ _ _ _ _ (c .before .before .before .before .before .before .before .before .before .before .before .dma-minor .ensures) _ (c .before .before .before .s .given .1) (c .enum-told2 .given .1)
+    request-off (a .base) _ (a .ch) _ (l .f) _ _ _ _ _ _ (l .inv .3) (c .before .before .before .before .before .before .before .before .before .before .before .before .before .before .before .before .before .before .before .before .before .before .loop-test .taken) (c .before .before .before .before .before .before .before .before .before .before .before .before .before .before .before .before .before .before .before .before .offered .ensures) (not-false _ (c .before .before .before .before .before .before .before .before .before .before .before .before .before .before .before .before .before .before .before .if1 .left)) _ (c .before .before .before .before .before .before .before .before .before .before .before .before .before .before .before .before .before .spend .ensures .0) (c .before .before .before .before .before .before .before .before .before .before .before .before .before .before .before .before .before .spend .ensures .1) _ (ap lending (l .inv .1)) _ _ _ _ _ (c .before .before .before .before .before .before .before .before .before .before .before .dma-minor .ensures) _ (c .before .before .before .s .given .1) (c .enum-told2 .given .1)
 
 sub-left : tie.Need-sub-left Inv-loop μ-loop
-sub-left c = search needs
+sub-left c = search (needs, c .before .before .before .before .before .before .before .before .before .before .before .before .before .before .before .before .before .before .before .before .before .before .before .loop-test .taken)
 
 loop-less : tie.Need-loop-less Inv-loop μ-loop
-loop-less c = search needs
+loop-less c = search (needs, c .before .before .before .before .before .before .before .before .before .before .before .before .before .before .before .before .before .before .before .before .before .before .before .loop-test .taken)
 
 loop-again : tie.Need-loop-again Inv-loop μ-loop
 loop-again c =
     let a = c .before .before .before .before .before .before .before .before .before .before .before .before .before .before .before .before .before .before .before .before .before .before .before .before .before .before .before .before .args in
     let l = c .before .before .before .before .before .before .before .before .before .before .before .before .before .before .before .before .before .before .before .before .before .before .before .before .loop in
-    (search needs, search needs, search needs, request-again (a .base) _ (a .standing) (a .ch) _ (l .f) _ _ _ _ _ _ (l .inv .3) (c .before .before .before .before .before .before .before .before .before .before .before .before .before .before .before .before .before .before .before .before .before .before .before .loop-test .taken) (c .before .before .before .before .before .before .before .before .before .before .before .before .before .before .before .before .before .before .before .before .before .offered .ensures) (not-false _ (c .before .before .before .before .before .before .before .before .before .before .before .before .before .before .before .before .before .before .before .before .if1 .left)) _ (c .before .before .before .before .before .before .before .before .before .before .before .before .before .before .before .before .before .before .spend .ensures .0) (c .before .before .before .before .before .before .before .before .before .before .before .before .before .before .before .before .before .before .spend .ensures .1) _ (ap lending (l .inv .1)) _ _ _ _ _ (c .before .before .before .before .before .before .before .before .before .before .before .before .dma-minor .ensures) _ (c .before .before .before .before .s .given .1) _ (c .before .s2 .given .1))
+    (search needs, search needs, search needs, request-again (a .base) _ (a .ch) _ (l .f) _ _ _ _ _ _ (l .inv .3) (c .before .before .before .before .before .before .before .before .before .before .before .before .before .before .before .before .before .before .before .before .before .before .before .loop-test .taken) (c .before .before .before .before .before .before .before .before .before .before .before .before .before .before .before .before .before .before .before .before .before .offered .ensures) (not-false _ (c .before .before .before .before .before .before .before .before .before .before .before .before .before .before .before .before .before .before .before .before .if1 .left)) _ (c .before .before .before .before .before .before .before .before .before .before .before .before .before .before .before .before .before .before .spend .ensures .0) (c .before .before .before .before .before .before .before .before .before .before .before .before .before .before .before .before .before .before .spend .ensures .1) _ (ap lending (l .inv .1)) _ _ _ _ _ (c .before .before .before .before .before .before .before .before .before .before .before .before .dma-minor .ensures) _ (c .before .before .before .before .s .given .1) _ (c .before .s2 .given .1))
 
 same-length-10 : tie.Need-same-length-10 Inv-loop μ-loop
 same-length-10 c = search needs
@@ -120,7 +120,7 @@ returns-4 : tie.Need-returns-4 Inv-loop μ-loop
 returns-4 c =
     let a = c .before .before .before .before .before .args in
     let l = c .before .loop in
-    request-out (a .base) _ (a .standing) (a .ch) _ (l .f) _ _ _ _ _ _ (l .inv .3) (search needs)
+    request-out (a .base) _ (a .ch) _ (l .f) _ _ _ _ _ _ (l .inv .3) (search needs)
 
 pub request-loop-spec : {M : Type 1} → statement M
 request-loop-spec =

@@ -26,7 +26,7 @@ returns c =
     let a = st .args in
     group-closes _ _ (a .used) (a .at) (a .journal .now) (st .pre .0) (st .pre .1)
     (c .before .before .note-end .ensures
-    ∙ ap (addEnd (a .used)) (all-done (At (a .at)) (a .journal .now) (a .before) (a .after) _ _ _ _ _ _ _ _ (c .before .before .before .before .before .before .before .before .before .before .note-low .ensures) (c .before .before .before .before .before .before .note-high .ensures)))
+    ∙ ap (addEnd (a .used)) (all-done (At (a .at)) (a .journal .now) (a .before) (a .after) _ _ _ _ _ _ _ _ _ _ (c .before .before .before .before .before .before .before .before .before .before .note-low .ensures) (c .before .before .before .before .before .before .note-high .ensures)))
 
 pub end-parts-spec : {M : Type 1} → statement M
 end-parts-spec =

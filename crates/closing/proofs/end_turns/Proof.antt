@@ -26,7 +26,7 @@ returns c taken =
     let a = st .args in
     group-closes _ _ (a .used) (a .at) (a .journal .now) (st .pre .0) (st .pre .1)
     (c .before .before .note-end .ensures
-    ∙ ap (addEnd (a .used)) (low-only (At (a .at)) (a .journal .now) (a .before) (a .after) _ _ _ _ _ _ taken (st .pre .2) (c .before .before .before .before .before .before .note-low .ensures)))
+    ∙ ap (addEnd (a .used)) (low-only (At (a .at)) (a .journal .now) (a .before) (a .after) _ _ _ _ _ _ _ _ taken (st .pre .2) (c .before .before .before .before .before .before .note-low .ensures)))
 
 pub end-turns-spec : {M : Type 1} → statement M
 end-turns-spec = tie.close (tie.spec note-low-requires note-end-requires same-length returns)

@@ -6,29 +6,29 @@ use Rattle.closing.proofs.Parts.{high-done}
 use Rattle.closing.proofs.note_high.Statement.{statement}
 use Rattle.closing.proofs.note_high.Tie as tie
 
-element-copy-out-note-levels : tie.Need-element-copy-out-note-levels
-element-copy-out-note-levels c = search needs
+array-copy-out-note-levels : tie.Need-array-copy-out-note-levels
+array-copy-out-note-levels c = search needs
 
-element-copy-out-note-levels-2 : tie.Need-element-copy-out-note-levels-2
-element-copy-out-note-levels-2 c = search needs
+array-copy-out-note-levels-2 : tie.Need-array-copy-out-note-levels-2
+array-copy-out-note-levels-2 c = search needs
 
 note-levels-requires : tie.Need-note-levels-requires
 note-levels-requires c κs = (omega arith, λ e. c .before .before .before .before .pre .0 e .first)
 
-element-copy-out-note-levels-3 : tie.Need-element-copy-out-note-levels-3
-element-copy-out-note-levels-3 c = search needs
+array-copy-out-note-levels-3 : tie.Need-array-copy-out-note-levels-3
+array-copy-out-note-levels-3 c = search needs
 
-element-copy-out-note-levels-4 : tie.Need-element-copy-out-note-levels-4
-element-copy-out-note-levels-4 c = search needs
+array-copy-out-note-levels-4 : tie.Need-array-copy-out-note-levels-4
+array-copy-out-note-levels-4 c = search needs
 
 note-levels-requires-2 : tie.Need-note-levels-requires-2
 note-levels-requires-2 c κs = (omega arith, λ e. c .before .before .before .before .before .before .before .before .before .before .pre .0 e .second)
 
-element-copy-out-note-levels-5 : tie.Need-element-copy-out-note-levels-5
-element-copy-out-note-levels-5 c = search needs
+array-copy-out-note-levels-5 : tie.Need-array-copy-out-note-levels-5
+array-copy-out-note-levels-5 c = search needs
 
-element-copy-out-note-levels-6 : tie.Need-element-copy-out-note-levels-6
-element-copy-out-note-levels-6 c = search needs
+array-copy-out-note-levels-6 : tie.Need-array-copy-out-note-levels-6
+array-copy-out-note-levels-6 c = search needs
 
 note-levels-requires-3 : tie.Need-note-levels-requires-3
 note-levels-requires-3 c κs = (omega arith, λ e. c .before .before .before .before .before .before .before .before .before .before .before .before .before .before .before .before .pre .0 e .third)
@@ -49,14 +49,14 @@ pub note-high-spec : {M : Type 1} → statement M
 note-high-spec =
     tie.close
     (tie.spec
-    element-copy-out-note-levels
-    element-copy-out-note-levels-2
+    array-copy-out-note-levels
+    array-copy-out-note-levels-2
     note-levels-requires
-    element-copy-out-note-levels-3
-    element-copy-out-note-levels-4
+    array-copy-out-note-levels-3
+    array-copy-out-note-levels-4
     note-levels-requires-2
-    element-copy-out-note-levels-5
-    element-copy-out-note-levels-6
+    array-copy-out-note-levels-5
+    array-copy-out-note-levels-6
     note-levels-requires-3
     note-wides-requires
     same-length

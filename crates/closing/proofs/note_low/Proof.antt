@@ -10,7 +10,10 @@ note-head-requires : tie.Need-note-head-requires
 note-head-requires c κs = search needs
 
 note-wides-requires : tie.Need-note-wides-requires
-note-wides-requires c κs = search needs
+note-wides-requires c κs =
+    let b = c .before .before .note-wides-arg .given .0 in
+    let a = c .before .note-wides-arg2 .given .0 in
+    record { alike = b ∙ sym a; places = omega arith; spared = c .before .before .before .before .before .before .before .before .pre .0 }
 
 note-wides-requires-2 : tie.Need-note-wides-requires-2
 note-wides-requires-2 c κs =
@@ -29,7 +32,7 @@ same-length c = search needs
 
 returns : tie.Need-returns
 returns c =
-    low-done _ _ _ _ (c .before .before .before .before .before .before .before .before .before .before .before .before .before .before .before .before .before .before .before .before .note-head .ensures)
+    low-done _ _ _ _ _ _ (c .before .before .before .before .before .before .before .before .before .before .before .before .before .before .before .before .before .before .before .before .note-head .ensures)
     (record { long = c .before .before .before .before .before .before .before .before .before .before .before .before .before .before .before .before .before .note-wides-arg .given .0; long-now = c .before .before .before .before .before .before .before .before .before .before .before .before .before .before .before .before .note-wides-arg2 .given .0; noted = c .before .before .before .before .before .before .before .before .before .before .before .before .before .before .note-wides .ensures })
     (record { long = c .before .before .before .before .before .before .before .before .before .before .before .note-wides-arg4 .given .0; long-now = c .before .before .before .before .before .before .before .before .before .before .note-wides-arg5 .given .0; noted = c .before .before .before .before .before .before .before .before .note-wides2 .ensures })
     (record { long = c .before .before .before .before .before .note-words-arg .given .0; long-now = c .before .before .before .before .note-words-arg2 .given .0; noted = c .before .before .note-words .ensures })

@@ -11,9 +11,9 @@ relevelled-requires c κs = search needs
 
 returns : tie.Need-returns
 returns c =
-    let made = c .before .relevelled .ensures in
+    let made = c .before .before .relevelled .ensures in
     let s = c .before .before .before in
-    relevel-does (view (s .args .d)) (sound (s .args .d) (s .good .0)) (made .0) (made .1) (search needs)
+    relevel-does (view (s .before .args .d)) (sound (s .before .args .d) (s .before .good .0)) (made .0) (made .1) (search needs)
 
 pub update-irq-spec : {M : Type 1} → statement M
 update-irq-spec = tie.close (tie.spec relevelled-requires returns)

@@ -42,8 +42,8 @@ returns c =
     let g1 = g2 .before .before in
     let g0 = g1 .before .before in
     let d = g0 .before .before in
-    inputs-held _ _ _ _ (d .fits .standing .fits) (d .fits .l0 .fits) (d .fits .l1 .fits) (d .fits .l2 .fits) (d .args .t1) (sound (d .args .t1) (d .good .0)) _
-    (g0 .given .ensures) (g1 .given2 .ensures) (g2 .given3 .ensures) (c .requesting .ensures)
+    inputs-held _ _ _ _ (d .before .before .fits .standing .fits) (d .before .before .fits .l0 .fits) (d .before .before .fits .l1 .fits) (d .before .before .fits .l2 .fits) (d .before .before .args .t1) (sound (d .before .before .args .t1) (d .before .before .good .0)) _
+    (g0 .before .before .given .ensures) (g1 .before .before .given2 .ensures) (g2 .before .before .given3 .ensures) (c .before .requesting .ensures)
 
 pub with-inputs-spec : {M : Type 1} → statement M
 with-inputs-spec =

@@ -3,7 +3,7 @@ use mathlib.Core.Path.{refl}
 use native.Mathlib.Omega.{arith}
 use borrow.Author.Needs.{needs}
 use Rattle.rules.specs.Fields.{bitsOf}
-use Rattle.device.proofs.Laws.{found-inside, found-bits, scalar-bits, own-bits}
+use Rattle.device.proofs.Laws.{found-inside, found-bits, listed-bits, own-bits}
 use Rattle.device.proofs.field_bits.Statement.{statement}
 use Rattle.device.proofs.field_bits.Tie as tie
 
@@ -50,7 +50,7 @@ returns : tie.Need-returns
 returns c = found-bits (c .before .before .spot-of .ensures) (c .enum-told .given .1) refl
 
 returns-2 : tie.Need-returns-2
-returns-2 c = let e = c .before .spot .given .1 in let p = c .before .before .before .spot-of .ensures in found-bits p e (scalar-bits _ (found-inside p e))
+returns-2 c = let e = c .before .spot .given .1 in let p = c .before .before .before .spot-of .ensures in found-bits p e (listed-bits _ (found-inside p e))
 
 returns-3 : tie.Need-returns-3
 returns-3 c = let e = c .before .spot2 .given .1 in let p = c .before .before .before .spot-of .ensures in found-bits p e (own-bits _ _ (found-inside p e .1))

@@ -1,13 +1,12 @@
 -- `device::spot_of` meets its contract: each range of numbers has its law. Assumes nothing.
 use mathlib.Core.Path.{sym}
 use native.Mathlib.Omega.{arith}
-use borrow.Author.Needs.{needs}
-use Rattle.rules.proofs.Numbers.{at-gap, at-own, at-gap-2, at-busy, at-majors, at-pending, at-source, at-gap-3, at-taken, at-none}
+use Rattle.rules.proofs.Numbers.{at-scalar, at-gap, at-own, at-gap-2, at-busy, at-majors, at-pending, at-source, at-gap-3, at-taken, at-none}
 use Rattle.device.proofs.spot_of.Statement.{statement}
 use Rattle.device.proofs.spot_of.Tie as tie
 
 returns : tie.Need-returns
-returns c = search needs
+returns c = record { name = sym (at-scalar _ (c .if1 .taken)); inside = c .if1 .taken }
 
 returns-2 : tie.Need-returns-2
 returns-2 c = record { name = sym (at-gap _ (c .before .if1 .left) (c .if2 .taken)); inside = tt }

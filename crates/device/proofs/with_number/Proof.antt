@@ -17,7 +17,8 @@ enum-known-spot : tie.Need-enum-known-spot
 enum-known-spot c = search needs
 
 with-scalar-requires : tie.Need-with-scalar-requires
-with-scalar-requires c κs = let e = c .before .spot .given .1 in let p = c .before .before .before .spot-of .ensures in (found-inside p e, found-fits p e _ (c .before .before .before .before .pre))
+unfolding bitsOf
+with-scalar-requires c κs = let e = c .before .before .spot .given .1 in let p = c .before .before .before .before .spot-of .ensures in (found-inside p e, ltb-true _ _ (found-fits p e _ (c .before .before .before .before .before .pre)))
 
 enum-known-spot-2 : tie.Need-enum-known-spot-2
 enum-known-spot-2 c = search needs
@@ -67,7 +68,7 @@ returns : tie.Need-returns
 returns c = found-puts (c .before .before .spot-of .ensures) (c .enum-told .given .1) _ _ refl
 
 returns-2 : tie.Need-returns-2
-returns-2 c = found-puts (c .before .before .before .before .spot-of .ensures) (c .before .before .spot .given .1) _ _ (c .with-scalar .ensures)
+returns-2 c = found-puts (c .before .before .before .before .before .spot-of .ensures) (c .before .before .before .spot .given .1) _ _ (rw (c .with-scalar .ensures) refl)
 
 returns-3 : tie.Need-returns-3
 returns-3 c = found-puts (c .before .before .before .before .spot-of .ensures) (c .before .before .spot2 .given .1) _ _ (c .with-own .ensures)

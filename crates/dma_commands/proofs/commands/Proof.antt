@@ -1,7 +1,6 @@
--- `dma_commands::commands` meets its contract. Assumes nothing.
+-- `dma_commands::commands` meets its contract: one command after another. Assumes nothing.
 use Rattle.dma_commands.proofs.Laws.{in-row}
-use Rattle.dma_commands.specs.Reaching.{reached}
-use denote.Ref.{now}
+use Rattle.act.specs.Worlds.{told}
 use borrow.Author.Needs.{needs}
 use Rattle.dma_commands.proofs.commands.Statement.{statement}
 use Rattle.dma_commands.proofs.commands.Tie as tie
@@ -31,9 +30,13 @@ same-length : tie.Need-same-length
 same-length c = search needs
 
 returns : tie.Need-returns
-returns c base lent w =
-    let a = c .before .before .before .before .before .before .before .before .before .before .before .before .before .before .before .before .before .args in
-    in-row base lent (a .k) (a .v) (reached (a .s) w (now (a .journal))) (c .before .before .before .before .before .before .before .before .before .before .before .before .before .before .command .ensures base lent w) (c .before .before .before .before .before .before .before .before .before .before .command2 .ensures base lent w) (c .before .before .before .before .before .before .command3 .ensures base lent w) (c .before .before .command4 .ensures base lent w)
+returns c base lent d w m e =
+    let a = c .before .before .before .before .before .before .before .before .before .before .before .before .before .before .before .before .before .before .before .before .before .args in
+    in-row base lent (a .k) (a .v) (told (a .s) d w (a .journal .now) (a .table .now) m)
+    (c .before .before .before .before .before .before .before .before .before .before .before .before .before .before .before .before .before .command .ensures base lent d w m e)
+    (c .before .before .before .before .before .before .before .before .before .before .before .before .command2 .ensures base lent d w m e)
+    (c .before .before .before .before .before .before .before .command3 .ensures base lent d w m e)
+    (c .before .before .command4 .ensures base lent d w m e)
 
 pub commands-spec : {M : Type 1} → statement M
 commands-spec =

@@ -4,7 +4,7 @@ use borrow.Author.Needs.{needs}
 use native.Mathlib.Omega.{arith}
 use Rattle.rules.specs.Carry.{Lent}
 use Rattle.dma_commands.proofs.Laws.{flag-turn, flag-end}
-use Rattle.dma_commands.specs.Reaching.{flagged}
+use Rattle.dma_commands.specs.Commands.{flagged}
 use Rattle.act.specs.Worlds.{told, on}
 use Rattle.rules.specs.State.{Device}
 use Rattle.rules.specs.Registers.{flagEach}

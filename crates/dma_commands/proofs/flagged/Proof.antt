@@ -1,5 +1,5 @@
 -- `dma_commands::flagged` meets its contract. Assumes nothing.
-use Rattle.dma_commands.specs.Reaching.{flagged}
+use Rattle.dma_commands.specs.Commands.{flagged}
 use borrow.Author.Needs.{needs}
 use Rattle.dma_commands.proofs.flagged.Statement.{statement}
 use Rattle.dma_commands.proofs.flagged.Tie as tie

@@ -1,8 +1,8 @@
--- `dma_commands::scalar_command` meets its contract. Assumes nothing.
+-- `dma_commands::scalar_command` meets its contract, arm by arm. Assumes nothing.
 use Rattle.dma_commands.proofs.Laws.{lost, gained}
 use Rattle.rules.specs.Registers.{command}
 use Rattle.rules.specs.Fields.{bitsOf}
-use Rattle.rules.specs.Act.{ERQ, EEI, INT, ERR}
+use Rattle.rules.specs.Scalars.{ERQ, EEI, INT, ERR}
 use native.Mathlib.Omega.{arith}
 use mathlib.Core.Path.{_≡_, refl}
 use borrow.Author.Needs.{needs}
@@ -29,27 +29,27 @@ without-requires-4 c κs = search needs
 
 returns : tie.Need-returns
 unfolding command
-returns c = rw (c .before .match .keys1) (c .set-requests .ensures)
+returns c d q = rw (c .before .match .keys1) (c .set-requests .ensures d q)
 
 returns-2 : tie.Need-returns-2
 unfolding command bitsOf
-returns-2 c = rw (c .before .match .keys2) (lost _ ERQ refl (search needs) _ (c .before .before .named .ensures) (c .without .ensures))
+returns-2 c d q = rw (c .before .match .keys2) (lost _ ERQ refl (search needs) _ (c .before .before .named .ensures) (c .without .ensures))
 
 returns-3 : tie.Need-returns-3
 unfolding command bitsOf
-returns-3 c = rw (c .before .match .keys3) (gained _ EEI refl (search needs) _ (c .before .before .named .ensures) (search needs))
+returns-3 c d q = rw (c .before .match .keys3) (gained _ EEI refl (search needs) _ (c .before .before .named .ensures) (search needs))
 
 returns-4 : tie.Need-returns-4
 unfolding command bitsOf
-returns-4 c = rw (c .before .match .keys4) (lost _ EEI refl (search needs) _ (c .before .before .named .ensures) (c .without2 .ensures))
+returns-4 c d q = rw (c .before .match .keys4) (lost _ EEI refl (search needs) _ (c .before .before .named .ensures) (c .without2 .ensures))
 
 returns-5 : tie.Need-returns-5
 unfolding command bitsOf
-returns-5 c = rw (c .before .match .keys5) (lost _ INT refl (search needs) _ (c .before .before .named .ensures) (c .without3 .ensures))
+returns-5 c d q = rw (c .before .match .keys5) (lost _ INT refl (search needs) _ (c .before .before .named .ensures) (c .without3 .ensures))
 
 returns-6 : tie.Need-returns-6
 unfolding command bitsOf
-returns-6 c = let e : c .before .before .before .args .k ≡ 5 = omega arith in rw e (lost _ ERR refl (search needs) _ (c .before .before .named .ensures) (c .without4 .ensures))
+returns-6 c d q = let e : c .before .before .before .args .k ≡ 5 = omega arith in rw e (lost _ ERR refl (search needs) _ (c .before .before .named .ensures) (c .without4 .ensures))
 
 pub scalar-command-spec : {M : Type 1} → statement M
 scalar-command-spec =

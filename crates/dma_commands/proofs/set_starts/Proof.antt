@@ -1,4 +1,4 @@
--- `dma_commands::set_starts` meets its contract. Assumes nothing.
+-- `dma_commands::set_starts` meets its contract: the flags of each channel, and then KICK. Assumes nothing.
 use Rattle.dma_commands.proofs.Laws.{starts}
 use borrow.Author.Needs.{needs}
 use Rattle.dma_commands.proofs.set_starts.Statement.{statement}
@@ -7,8 +7,8 @@ use Rattle.dma_commands.proofs.set_starts.Tie as tie
 named-requires : tie.Need-named-requires
 named-requires c κs = search needs
 
-flag-channels-requires : tie.Need-flag-channels-requires
-flag-channels-requires c κs = search needs
+flag-each-requires : tie.Need-flag-each-requires
+flag-each-requires c κs = search needs
 
 with-kick-requires : tie.Need-with-kick-requires
 with-kick-requires c κs = search needs
@@ -17,9 +17,8 @@ same-length : tie.Need-same-length
 same-length c = search needs
 
 returns : tie.Need-returns
-returns c base lent w = starts base lent _ _ (c .before .before .before .before .before .named .ensures) (c .with-kick .ensures _ base lent w) (c .before .before .before .flag-channels .ensures base lent w)
+returns c base lent d w m = starts base lent _ _ (c .before .before .before .before .before .before .named .ensures) (c .with-kick .ensures base lent d w _ _ m) (c .before .before .before .flag-each .ensures base lent d w m)
 
 pub set-starts-spec : {M : Type 1} → statement M
 set-starts-spec =
-    tie.close
-    (tie.spec named-requires flag-channels-requires with-kick-requires same-length returns)
+    tie.close (tie.spec named-requires flag-each-requires with-kick-requires same-length returns)

@@ -1,4 +1,5 @@
 -- `engine::dma_service` meets its contract. Assumes nothing.
+use mathlib.Core.Path.{refl}
 use Rattle.engine.proofs.Beginning.{offers-again}
 use borrow.Author.Needs.{needs}
 use Rattle.engine.proofs.dma_service.Statement.{statement}
@@ -13,7 +14,12 @@ waiting-requires c κs = search needs
 returns : tie.Need-returns
 returns c =
     let a = c .before .before .before .before .before .before .before .args in
-    offers-again (a .time) (a .s) (a .used) _ _ _ _ _ (c .before .before .before .before .before .release .ensures) (c .before .before .before .waiting .ensures) (search needs) (search needs) (search needs)
+    offers-again (a .time) (a .n) (a .used) _ _ _ _ _ (c .before .before .before .before .before .release .ensures) (c .before .before .before .waiting .ensures) (search needs) (search needs) (search needs) _ refl
 
 pub dma-service-spec : {M : Type 1} → statement M
-dma-service-spec = tie.close (tie.spec release-requires waiting-requires returns)
+dma-service-spec =
+    tie.close
+    (tie.spec
+    release-requires
+    waiting-requires
+    returns)

@@ -1,17 +1,15 @@
 -- `engine::offered` meets its contract. Assumes nothing.
+use mathlib.Core.Path.{refl}
 use Rattle.engine.proofs.Beginning.{offers-run, offers-service}
 use borrow.Author.Tests.{not-true, not-false}
 use borrow.Author.Needs.{needs}
 use Rattle.engine.proofs.offered.Statement.{statement}
 use Rattle.engine.proofs.offered.Tie as tie
 
-course-from-requires : tie.Need-course-from-requires
-course-from-requires c κs = search needs
-
 returns : tie.Need-returns
 returns c =
-    let a = c .before .before .args in
-    offers-run (a .again) (not-true _ (c .before .if1 .taken)) (a .time) (a .s) (a .used) _ _ (c .course-from .ensures)
+    let a = c .before .args in
+    offers-run (a .again) (not-true _ (c .if1 .taken)) (a .time) (a .n) (a .used) _ _ refl
 
 dma-service-requires : tie.Need-dma-service-requires
 dma-service-requires c κs = search needs
@@ -19,7 +17,12 @@ dma-service-requires c κs = search needs
 returns-2 : tie.Need-returns-2
 returns-2 c =
     let a = c .before .before .before .args in
-    offers-service (a .again) (not-false _ (c .before .before .if1 .left)) (a .time) (a .s) (a .used) _ _ _ (c .dma-service .result) (c .dma-service .ensures)
+    offers-service (a .again) (not-false _ (c .before .before .if1 .left)) (a .time) (a .n) (a .used) _ _ _ (c .dma-service .result) (c .dma-service .ensures)
 
 pub offered-spec : {M : Type 1} → statement M
-offered-spec = tie.close (tie.spec course-from-requires returns dma-service-requires returns-2)
+offered-spec =
+    tie.close
+    (tie.spec
+    returns
+    dma-service-requires
+    returns-2)

@@ -30,7 +30,7 @@ carried-requires c κs =
     let st = c .before .before .before .before .before .before .before .before .before .before .before .before .before .before .before .before .before .before .before .before .before .before .before in
     let a = st .args in
     let r = right (a .base) _ _ (a .used) (a .time) (a .pace) (sym (c .before .before .before .before .before .before .before .before .before .before .before .before .before .before .before .before .before .before .before .tested .ensures) ∙ ap verdictNumber (c .before .before .before .before .before .before .before .before .before .before .before .before .before .before .before .before .before .enum-told .given .1)) in
-    (r .early, r .slow, r .within, r .below, record { taken = st .pre .taken; fine = st .pre .fine; act = stepsOf (a .again) (a .time) (a .pace); steps = c .before .before .before .before .before .before .before .before .before .before .offered .ensures (a .pace) (a .base) _ (a .ignore) _ _ (st .pre .taken) _ _ })
+    (r .early, r .slow, r .within, r .below, record { taken = st .pre .taken; fine = st .pre .fine; act = stepsOf (a .again) (a .time) (a .pace); steps = c .before .before .before .before .before .before .before .before .before .before .offered .ensures (a .pace) (a .base) _ (a .controllers) (a .ignore) (a .table .now) (a .majors .now) (st .pre .taken) (a .window .now) (a .journal .now) })
 
 enum-told-3 : tie.Need-enum-told-3
 enum-told-3 c = search needs
@@ -51,7 +51,7 @@ returns-2 : tie.Need-returns-2
 returns-2 c taken fine =
     let a = c .before .before .before .before .before .before .before .before .before .before .before .before .before .before .before .before .before .before .before .before .before .before .before .before .before .before .before .before .before .before .before .before .args in
     asked-told (a .base) _ _ _ _ (a .used) (a .time) (a .pace) _ (a .again) (sym (c .before .before .before .before .before .before .before .before .before .before .before .before .before .before .before .before .before .before .before .before .before .before .before .before .before .before .before .before .tested .ensures) ∙ ap verdictNumber (c .before .before .before .before .before .before .before .before .before .before .before .before .before .before .before .before .before .before .before .before .before .before .before .before .before .before .enum-told .given .1))
-    (told-kept _ (c .enum-told4 .given .1) _ _ (c .before .before .before .before .before .before .before .before .carried .ensures taken fine (stepsOf (a .again) (a .time) (a .pace)) (c .before .before .before .before .before .before .before .before .before .before .before .before .before .before .before .before .before .before .before .offered .ensures (a .pace) (a .base) _ (a .ignore) _ _ taken _ _)))
+    (told-kept _ (c .enum-told4 .given .1) _ _ (c .before .before .before .before .before .before .before .before .carried .ensures taken fine (stepsOf (a .again) (a .time) (a .pace)) (c .before .before .before .before .before .before .before .before .before .before .before .before .before .before .before .before .before .before .before .offered .ensures (a .pace) (a .base) _ (a .controllers) (a .ignore) (a .table .now) (a .majors .now) taken (a .window .now) (a .journal .now))))
 
 same-length-4 : tie.Need-same-length-4
 same-length-4 c = search needs
@@ -66,7 +66,7 @@ returns-3 : tie.Need-returns-3
 returns-3 c taken fine =
     let a = c .before .before .before .before .before .before .before .before .before .before .before .before .before .before .before .before .before .before .before .before .before .before .before .before .before .before .before .before .before .before .before .before .args in
     asked-told (a .base) _ _ _ _ (a .used) (a .time) (a .pace) _ (a .again) (sym (c .before .before .before .before .before .before .before .before .before .before .before .before .before .before .before .before .before .before .before .before .before .before .before .before .before .before .before .before .tested .ensures) ∙ ap verdictNumber (c .before .before .before .before .before .before .before .before .before .before .before .before .before .before .before .before .before .before .before .before .before .before .before .before .before .before .enum-told .given .1))
-    (told-moved _ (c .enum-told3 .given .1) _ _ (c .before .before .before .before .before .before .before .before .carried .ensures taken fine (stepsOf (a .again) (a .time) (a .pace)) (c .before .before .before .before .before .before .before .before .before .before .before .before .before .before .before .before .before .before .before .offered .ensures (a .pace) (a .base) _ (a .ignore) _ _ taken _ _)))
+    (told-moved _ (c .enum-told3 .given .1) _ _ (c .before .before .before .before .before .before .before .before .carried .ensures taken fine (stepsOf (a .again) (a .time) (a .pace)) (c .before .before .before .before .before .before .before .before .before .before .before .before .before .before .before .before .before .before .before .offered .ensures (a .pace) (a .base) _ (a .controllers) (a .ignore) (a .table .now) (a .majors .now) taken (a .window .now) (a .journal .now))))
 
 pub run-dma-spec : {M : Type 1} → statement M
 run-dma-spec =

@@ -5,13 +5,8 @@ use borrow.Author.Needs.{needs}
 use Rattle.engine.proofs.service.Statement.{statement}
 use Rattle.engine.proofs.service.Tie as tie
 
-small-of-requires : tie.Need-small-of-requires
-small-of-requires c κs = search needs
-
 run-dma-requires : tie.Need-run-dma-requires
-run-dma-requires c κs =
-    let st = c .before .before .before .before .before .before .before .before .before .before .before .before .before .before .before in
-    record { taken = st .args .d .taken; fine = fine-parts (st .args .d) (st .good .0) _ (c .before .before .before .before .before .before .before .small-of .ensures) }
+run-dma-requires c κs = let st = c .before .before .before .before .before .before .before .before .before .before .before .before .before .before .before .before in record { taken = st .args .d .taken; fine = fine-parts (st .args .d) (st .good .0) }
 
 put-together-requires : tie.Need-put-together-requires
 put-together-requires c κs = search needs
@@ -27,16 +22,14 @@ same-length-3 c = search needs
 
 returns : tie.Need-returns
 returns c =
-    let st = c .before .before .before .before .before .before .before .before .before .before .before .before .before .before .before .before .before .before .before .before .before .before .before .before in
+    let st = c .before .before .before .before .before .before .before .before .before .before .before .before .before .before .before .before .before .before .before .before .before .before .before .before .before .before in
     let a = st .args in
-    whole-told (serviceCall (a .time) (a .pace)) (a .base) (a .d) _ _ _ (a .used) _ (c .before .before .before .before .before .before .before .before .before .before .before .before .before .before .before .before .small-of .ensures) _ _ _ _ _ _ _ (c .put-together .ensures)
-    (c .before .before .before .before .before .before .before .before .run-dma .ensures (a .d .taken) (fine-parts (a .d) (st .good .0) _ (c .before .before .before .before .before .before .before .before .before .before .before .before .before .before .before .before .small-of .ensures)))
+    whole-told (serviceCall (a .time) (a .pace)) (a .base) (a .d) _ _ _ (a .used) _ _ _ _ _ _ _ (c .put-together .ensures) (c .before .before .before .before .before .before .before .before .before .run-dma .ensures (a .d .taken) (fine-parts (a .d) (st .good .0)))
 
 pub service-spec : {M : Type 1} → statement M
 service-spec =
     tie.close
     (tie.spec
-    small-of-requires
     run-dma-requires
     put-together-requires
     same-length

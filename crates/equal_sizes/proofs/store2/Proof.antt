@@ -42,14 +42,14 @@ returns-2 c lent d =
 get2-requires : tie.Need-get2-requires
 get2-requires c κs = at-fits _ _ _ _ (c .before .before .before .before .before .before .before .where-is .ensures) (c .before .before .before .before .before .i .given .1)
 
+put2-requires : tie.Need-put2-requires
+put2-requires c κs = at-fits _ _ _ _ (c .before .before .before .before .before .before .before .before .before .where-is .ensures) (c .before .before .before .before .before .before .before .i .given .1)
+
 cast-put-record : tie.Need-cast-put-record
 cast-put-record c = search needs
 
 put-record-requires : tie.Need-put-record-requires
-put-record-requires c κs = room _ _ (c .before .before .before .before .has-room .ensures) (c .before .before .before .if1 .left)
-
-put2-requires : tie.Need-put2-requires
-put2-requires c κs = at-fits _ _ _ _ (c .before .before .before .before .before .before .before .before .before .before .before .before .before .where-is .ensures) (c .before .before .before .before .before .before .before .before .before .before .before .i .given .1)
+put-record-requires c κs = room _ _ (c .before .before .before .before .before .before .before .before .has-room .ensures) (c .before .before .before .before .before .before .before .if1 .left)
 
 add-t26 : tie.Need-add-t26
 add-t26 c =
@@ -68,7 +68,7 @@ returns-3 c lent d =
     let place = c .before .before .before .before .before .before .before .before .before .before .before .before .before .before .before .before .where-is .ensures in
     let found = c .before .before .before .before .before .before .before .before .before .before .before .before .before .before .i .given .1 in
     window-done _ lent d _ _ _ _ _ _ (at-there _ _ _ _ place found d) refl (room _ _ (c .before .before .before .before .before .before .before .before .before .before .before .has-room .ensures) (c .before .before .before .before .before .before .before .before .before .before .if1 .left))
-    (at-index _ _ _ _ place found) (c .before .before .before .before .before .before .before .before .get2 .ensures) (c .before .before .put2 .ensures) (c .before .before .before .before .before .before .put-record .ensures)
+    (at-index _ _ _ _ place found) (c .before .before .before .before .before .before .before .before .get2 .ensures) (c .before .before .before .before .before .before .put2 .ensures) (c .before .before .put-record .ensures)
 
 pub store2-spec : {M : Type 1} → statement M
 store2-spec =
@@ -84,9 +84,9 @@ store2-spec =
     same-length-3
     returns-2
     get2-requires
+    put2-requires
     cast-put-record
     put-record-requires
-    put2-requires
     add-t26
     same-length-4
     same-length-5

@@ -42,14 +42,14 @@ returns-2 c lent d =
 get4-requires : tie.Need-get4-requires
 get4-requires c κs = at-fits _ _ _ _ (c .before .before .before .before .before .before .before .where-is .ensures) (c .before .before .before .before .before .i .given .1)
 
+put4-requires : tie.Need-put4-requires
+put4-requires c κs = at-fits _ _ _ _ (c .before .before .before .before .before .before .before .before .before .where-is .ensures) (c .before .before .before .before .before .before .before .i .given .1)
+
 cast-put-record : tie.Need-cast-put-record
 cast-put-record c = search needs
 
 put-record-requires : tie.Need-put-record-requires
-put-record-requires c κs = room _ _ (c .before .before .before .before .has-room .ensures) (c .before .before .before .if1 .left)
-
-put4-requires : tie.Need-put4-requires
-put4-requires c κs = at-fits _ _ _ _ (c .before .before .before .before .before .before .before .before .before .before .before .before .before .where-is .ensures) (c .before .before .before .before .before .before .before .before .before .before .before .i .given .1)
+put-record-requires c κs = room _ _ (c .before .before .before .before .before .before .before .before .has-room .ensures) (c .before .before .before .before .before .before .before .if1 .left)
 
 add-t26 : tie.Need-add-t26
 add-t26 c =
@@ -68,7 +68,7 @@ returns-3 c lent d =
     let place = c .before .before .before .before .before .before .before .before .before .before .before .before .before .before .before .before .where-is .ensures in
     let found = c .before .before .before .before .before .before .before .before .before .before .before .before .before .before .i .given .1 in
     window-done _ lent d _ _ _ _ _ _ (at-there _ _ _ _ place found d) refl (room _ _ (c .before .before .before .before .before .before .before .before .before .before .before .has-room .ensures) (c .before .before .before .before .before .before .before .before .before .before .if1 .left))
-    (at-index _ _ _ _ place found) (c .before .before .before .before .before .before .before .before .get4 .ensures) (c .before .before .put4 .ensures) (c .before .before .before .before .before .before .put-record .ensures)
+    (at-index _ _ _ _ place found) (c .before .before .before .before .before .before .before .before .get4 .ensures) (c .before .before .before .before .before .before .put4 .ensures) (c .before .before .put-record .ensures)
 
 pub store4-spec : {M : Type 1} → statement M
 store4-spec =
@@ -84,9 +84,9 @@ store4-spec =
     same-length-3
     returns-2
     get4-requires
+    put4-requires
     cast-put-record
     put-record-requires
-    put4-requires
     add-t26
     same-length-4
     same-length-5

@@ -16,8 +16,11 @@ put-table-requires c κs = let a = c .before .before .before .before in omega (a
 put-flag-requires : tie.Need-put-flag-requires
 put-flag-requires c κs = search needs
 
-put-head-requires : tie.Need-put-head-requires
-put-head-requires c κs = search needs
+put-scalars-requires : tie.Need-put-scalars-requires
+put-scalars-requires c κs = search needs
+
+put-own-requires : tie.Need-put-own-requires
+put-own-requires c κs = search needs
 
 put-channels-requires : tie.Need-put-channels-requires
 put-channels-requires c κs = search needs
@@ -33,8 +36,8 @@ same-length c = search needs
 
 returns : tie.Need-returns
 returns c =
-    let a = c .before .before .before .before .before .before .before .before .before .before .before .before .before .before .before .before .before .before .before .before .before .before .before .before .before .before .before in
-    image-laid (view (a .args .d)) (sound (a .args .d) (a .good .1 .0)) (table-size (a .args .d) (a .good .1 .0)) _ _ _ _ _ _ _ (a .pre) (c .before .before .before .before .before .before .before .before .before .before .before .before .before .before .before .before .before .before .before .before .before .before .put-table .ensures) (c .before .before .before .before .before .before .before .before .before .before .before .before .before .before .before .before .before .before .put-flag .ensures) (c .before .before .before .before .before .before .before .before .before .before .before .before .before .before .put-head .ensures) (c .before .before .before .before .before .before .before .before .before .before .put-channels .ensures) (c .before .before .before .before .before .before .put-levels .ensures) (c .before .before .put-taken .ensures)
+    let a = c .before .before .before .before .before .before .before .before .before .before .before .before .before .before .before .before .before .before .before .before .before .before .before .before .before .before .before .before .before .before .before in
+    image-laid (view (a .args .d)) (sound (a .args .d) (a .good .1 .0)) (table-size (a .args .d) (a .good .1 .0)) _ _ _ _ _ _ _ _ (a .pre) (c .before .before .before .before .before .before .before .before .before .before .before .before .before .before .before .before .before .before .before .before .before .before .before .before .before .before .put-table .ensures) (c .before .before .before .before .before .before .before .before .before .before .before .before .before .before .before .before .before .before .before .before .before .before .put-flag .ensures) (c .before .before .before .before .before .before .before .before .before .before .before .before .before .before .before .before .before .before .put-scalars .ensures) (c .before .before .before .before .before .before .before .before .before .before .before .before .before .before .put-own .ensures) (c .before .before .before .before .before .before .before .before .before .before .put-channels .ensures) (c .before .before .before .before .before .before .put-levels .ensures) (c .before .before .put-taken .ensures)
 
 pub put-device-spec : {M : Type 1} → statement M
 put-device-spec =
@@ -43,7 +46,8 @@ put-device-spec =
     slice-aggregate-put-table
     put-table-requires
     put-flag-requires
-    put-head-requires
+    put-scalars-requires
+    put-own-requires
     put-channels-requires
     put-levels-requires
     put-taken-requires

@@ -54,13 +54,13 @@ same-length-2 c = search needs
 
 returns-3 : tie.Need-returns-3
 returns-3 c base lent d w m =
-    let rec = c .before .before .before .before in
+    let rec = c .before .before .before .before .before in
     let asked = rec .before .before in
     let get = asked .before .before .before in
     let known = get .before .before .before .before in
     let start = known .before .before .before in
     table-done base lent d _ w (start .args .journal .now) (start .args .table .now) m (known .s .given .1) _ _ _ (omega arith) (legal-table _ (start .pre .1))
-    (room _ _ (asked .before .has-room .ensures) (asked .if1 .left)) (get .get-width .ensures) (c .put-width .ensures) (rec .put-record .ensures) refl
+    (room _ _ (asked .before .has-room .ensures) (asked .if1 .left)) (get .get-width .ensures) (c .before .put-width .ensures) (rec .put-record .ensures) refl
 
 pub store-table-spec : {M : Type 1} → statement M
 store-table-spec =

@@ -70,7 +70,7 @@ returns-2 c d =
     (pass-not _ _ d _ _ _ _ _ (a .ch) (c .before .before .before .before .before .before .before .before .before .before .before .before .before .before .before .before .before .read-tcd .ensures .0) (omega (arith, size, c .before .before .before .before .before .before .before .before .before .before .before .before .before .before .before .before .before .before .before .before .before .before .pre)) (c .before .before .before .before .before .before .before .before .before .before .before .before .before .before .before .before .count-of .ensures) (c .before .before .before .before .before .before .before .before .before .before .before .before .before .before .before .if1 .left) _ _ _ moved (c .before .before .r .given .1))
 
 same-length-4 : tie.Need-same-length-4
-same-length-4 c = search needs
+same-length-4 c = c .before .before .before .before .before .before .before .before .before .before .before .before .before .before .before .before .before .before .before .before .before .transfer .kept .1 .0
 
 same-length-5 : tie.Need-same-length-5
 same-length-5 c = search needs

@@ -1,5 +1,5 @@
 -- `registers::stored` meets its contract. Assumes nothing.
-use Rattle.dma_commands.proofs.Laws.{does-on}
+use Rattle.acting.proofs.Laws.{does-on}
 use borrow.Author.Needs.{needs}
 use Rattle.registers.proofs.stored.Statement.{statement}
 use Rattle.registers.proofs.stored.Tie as tie

@@ -7,6 +7,8 @@ use Prim.Native.Nat.{ℕ, _-_, _≤_}
 use Rattle.rules.specs.Carry.{go, Lent}
 use Rattle.rules.specs.Run.{release}
 use Rattle.rules.specs.With.{withBusy}
+use Rattle.rules.specs.Fields.{holds}
+use Rattle.rules.specs.Scalars.{ERQ}
 use Rattle.rules.specs.State.{Device}
 use Rattle.act.specs.Does.{beside}
 use Rattle.turns.proofs.release.Statement.{statement}
@@ -15,7 +17,7 @@ use Rattle.turns.proofs.release.Tie as tie
 abbrev Inv-loop : tie.InvT-loop
 Inv-loop time erq busy₀ m₀ ch₀ busy m ch =
     (ch ≤ 64)
-    × ((base : ℕ) (lent : Lent) (mem used free : List ℕ) (d : Device) → d .erq ≡ erq
+    × ((base : ℕ) (lent : Lent) (mem used free : List ℕ) (d : Device) → holds ERQ d ≡ erq
     → go base lent (release time (64 - ch) ch m) (beside mem used free (withBusy d busy)) ≡ go base lent (release time 64 0 0) (beside mem used free (withBusy d busy₀)))
 
 abbrev μ-loop : tie.MeasureT-loop

@@ -11,21 +11,21 @@ use Rattle.turns.proofs.run_dma_inner.Statement.{statement}
 use Rattle.turns.proofs.run_dma_inner.Tie as tie
 
 abbrev Inv-loop : tie.InvT-loop
-Inv-loop standing time pace base window₀ table₀ majors₀ pending₀ busy₀ staging₀ journal₀ s₀ left₀ window table majors pending busy staging journal s left =
+Inv-loop time pace base window₀ table₀ busy₀ majors₀ pending₀ staging₀ journal₀ s₀ left₀ window table busy majors pending staging journal s left =
     (length window ≡ length window₀)
     × (length staging ≡ length staging₀)
     × (length journal ≡ length journal₀)
-    × ((d : Device) → d .standing ≡ standing
-    → go base (lending (length staging₀)) (turns time pace left) (turning d s window journal table majors pending busy)
-    ≡ go base (lending (length staging₀)) (runAll time pace) (turning d s₀ window₀ journal₀ table₀ majors₀ pending₀ busy₀))
+    × ((d : Device)
+    → go base (lending (length staging₀)) (turns time pace left) (turning d s window journal table busy majors pending)
+    ≡ go base (lending (length staging₀)) (runAll time pace) (turning d s₀ window₀ journal₀ table₀ busy₀ majors₀ pending₀))
 
 abbrev μ-loop : tie.MeasureT-loop
-μ-loop standing time pace base window₀ table₀ majors₀ pending₀ busy₀ staging₀ journal₀ s₀ left₀ window table majors pending busy staging journal s left =
+μ-loop time pace base window₀ table₀ busy₀ majors₀ pending₀ staging₀ journal₀ s₀ left₀ window table busy majors pending staging journal s left =
     left
 
 loop-holds : tie.Need-loop-holds Inv-loop μ-loop
 unfolding runAll runTurns
-loop-holds c = (refl, refl, refl, λ d h. refl)
+loop-holds c = (refl, refl, refl, λ d. refl)
 
 same-length : tie.Need-same-length Inv-loop μ-loop
 same-length c = search needs
@@ -38,9 +38,9 @@ same-length-3 c = search needs
 
 returns : tie.Need-returns Inv-loop μ-loop
 returns c =
-    let a = c .before .before .before .before .before .before .before .args in
-    let l = c .before .before .before .loop in
-    turns-stop (a .base) _ (a .standing) (a .time) (a .pace) _ (l .s) _ _ _ _ _ _ _ (l .inv .3) (c .before .before .loop-test .taken) (c .if1 .taken)
+    let a = c .before .before .before .before .before .before .args in
+    let l = c .before .before .loop in
+    turns-stop (a .base) _ (a .time) (a .pace) _ (l .s) _ _ _ _ _ _ _ (l .inv .3) (c .before .loop-test .taken) (c .if1 .taken)
 
 next-channel-requires : tie.Need-next-channel-requires Inv-loop μ-loop
 next-channel-requires c κs = search needs
@@ -65,9 +65,9 @@ same-length-6 c = search needs
 
 returns-2 : tie.Need-returns-2 Inv-loop μ-loop
 returns-2 c =
-    let a = c .before .before .before .before .before .before .before .before .before .before .before .before .before .before .before .before .before .before .before .before .before .before .before .before .args in
-    let l = c .before .before .before .before .before .before .before .before .before .before .before .before .before .before .before .before .before .before .before .before .loop in
-    turns-refused (a .base) _ (a .standing) (a .time) (a .pace) _ (l .s) _ _ _ _ _ _ _ (l .inv .3) (c .before .before .before .before .before .before .before .before .before .before .before .before .before .before .before .before .before .before .before .loop-test .taken) (c .before .before .before .before .before .before .before .before .before .before .before .before .before .before .before .before .before .if1 .left) _ (c .before .before .before .before .before .before .before .before .before .before .before .before .before .before .before .before .next-channel .ensures .0) _ (ap lending (l .inv .1)) _ _ _ _ _ _ _ (c .before .before .before .before .before .before .before .before .turn .ensures) (c .enum-told .given .1)
+    let a = c .before .before .before .before .before .before .before .before .before .before .before .before .before .before .before .before .before .before .before .before .before .before .before .args in
+    let l = c .before .before .before .before .before .before .before .before .before .before .before .before .before .before .before .before .before .before .before .loop in
+    turns-refused (a .base) _ (a .time) (a .pace) _ (l .s) _ _ _ _ _ _ _ (l .inv .3) (c .before .before .before .before .before .before .before .before .before .before .before .before .before .before .before .before .before .before .loop-test .taken) (c .before .before .before .before .before .before .before .before .before .before .before .before .before .before .before .before .before .if1 .left) _ (c .before .before .before .before .before .before .before .before .before .before .before .before .before .before .before .before .next-channel .ensures .0) _ (ap lending (l .inv .1)) _ _ _ _ _ _ _ (c .before .before .before .before .before .before .before .before .turn .ensures) (c .enum-told .given .1)
 
 sub-left : tie.Need-sub-left Inv-loop μ-loop
 sub-left c = search needs
@@ -77,9 +77,9 @@ loop-less c = search needs
 
 loop-again : tie.Need-loop-again Inv-loop μ-loop
 loop-again c =
-    let a = c .before .before .before .before .before .before .before .before .before .before .before .before .before .before .before .before .before .before .before .before .before .before .before .before .before .args in
-    let l = c .before .before .before .before .before .before .before .before .before .before .before .before .before .before .before .before .before .before .before .before .before .loop in
-    (search needs, search needs, search needs, turns-again (a .base) _ (a .standing) (a .time) (a .pace) _ (l .s) _ _ _ _ _ _ _ (l .inv .3) (c .before .before .before .before .before .before .before .before .before .before .before .before .before .before .before .before .before .before .before .before .loop-test .taken) (c .before .before .before .before .before .before .before .before .before .before .before .before .before .before .before .before .before .before .if1 .left) _ (c .before .before .before .before .before .before .before .before .before .before .before .before .before .before .before .before .before .next-channel .ensures .0) _ (ap lending (l .inv .1)) _ _ _ _ _ _ _ (c .before .before .before .before .before .before .before .before .before .turn .ensures) _ (c .before .r .given .1))
+    let a = c .before .before .before .before .before .before .before .before .before .before .before .before .before .before .before .before .before .before .before .before .before .before .before .before .args in
+    let l = c .before .before .before .before .before .before .before .before .before .before .before .before .before .before .before .before .before .before .before .before .loop in
+    (search needs, search needs, search needs, turns-again (a .base) _ (a .time) (a .pace) _ (l .s) _ _ _ _ _ _ _ (l .inv .3) (c .before .before .before .before .before .before .before .before .before .before .before .before .before .before .before .before .before .before .before .loop-test .taken) (c .before .before .before .before .before .before .before .before .before .before .before .before .before .before .before .before .before .before .if1 .left) _ (c .before .before .before .before .before .before .before .before .before .before .before .before .before .before .before .before .before .next-channel .ensures .0) _ (ap lending (l .inv .1)) _ _ _ _ _ _ _ (c .before .before .before .before .before .before .before .before .before .turn .ensures) _ (c .before .r .given .1))
 
 same-length-7 : tie.Need-same-length-7 Inv-loop μ-loop
 same-length-7 c = search needs
@@ -94,7 +94,7 @@ returns-3 : tie.Need-returns-3 Inv-loop μ-loop
 returns-3 c =
     let a = c .before .before .before .before .before .args in
     let l = c .before .loop in
-    turns-out (a .base) _ (a .standing) (a .time) (a .pace) _ (l .s) _ _ _ _ _ _ _ (l .inv .3) (search needs)
+    turns-out (a .base) _ (a .time) (a .pace) _ (l .s) _ _ _ _ _ _ _ (l .inv .3) (search needs)
 
 pub run-dma-inner-spec : {M : Type 1} → statement M
 run-dma-inner-spec =

@@ -17,13 +17,13 @@ enum-known-l-2 c = search needs
 
 mul-until : tie.Need-mul-until
 mul-until c =
-    let s = c .before .before .before .before .before .before .before .before .before .before .before .before .before .before .before .before .before .before .before in
+    let s = c .before .before .before .before .before .before .before .before .before .before .before .before .before .before .before .before .before .before in
     let fits = until-fits (s .args .time) _ (s .args .pace) (s .pre .0) (s .pre .1) (sum-below (c .before .l2 .given .1) (c .before .before .before .before .before .before .before .before .before .line-loop .ensures .small)) in
     omega arith
 
 add-until : tie.Need-add-until
 add-until c =
-    let s = c .before .before .before .before .before .before .before .before .before .before .before .before .before .before .before .before .before .before .before in
+    let s = c .before .before .before .before .before .before .before .before .before .before .before .before .before .before .before .before .before .before in
     let fits = until-fits (s .args .time) _ (s .args .pace) (s .pre .0) (s .pre .1) (sum-below (c .before .l2 .given .1) (c .before .before .before .before .before .before .before .before .before .line-loop .ensures .small)) in
     omega arith
 
@@ -43,8 +43,8 @@ same-length-3 : tie.Need-same-length-3
 same-length-3 c = search needs
 
 returns : tie.Need-returns
-returns c p standing d h =
-    let a = c .before .before .before .before .before .before .before .before .before .before .before .before .before .before .before .before .before .before .before .args in
+returns c p d =
+    let a = c .before .before .before .before .before .before .before .before .before .before .before .before .before .before .before .before .before .before .args in
     line-broken (a .base) _ (a .time) (a .pace) (a .t) _ _ _ _ _ _ _ _ _ _ (c .before .before .before .before .before .before .before .before .before .line-loop .ensures) _ _ (c .before .l .given .1) d p
 
 same-length-4 : tie.Need-same-length-4
@@ -57,10 +57,10 @@ same-length-6 : tie.Need-same-length-6
 same-length-6 c = search needs
 
 returns-2 : tie.Need-returns-2
-returns-2 c p standing d h =
+returns-2 c p d =
     let s = c .before .before .before .before .before .before .before .before .before .before .before .before .before .before .before .before .before .before .before .before in
     let a = s .args in
-    line-served (a .base) _ (a .time) (a .pace) (a .t) _ _ _ _ _ _ _ _ _ _ (c .before .before .before .before .before .before .before .before .before .before .line-loop .ensures) _ _ (c .before .before .l2 .given .1) _ _ refl (until-fits (a .time) _ (a .pace) (s .pre .0) (s .pre .1) (sum-below (c .before .before .l2 .given .1) (c .before .before .before .before .before .before .before .before .before .before .line-loop .ensures .small))) (c .earlier .ensures) (search needs) d p
+    line-served (a .base) _ (a .time) (a .pace) (a .t) _ _ _ _ _ _ _ _ _ _ (c .before .before .before .before .before .before .before .before .before .before .before .line-loop .ensures) _ _ (c .before .before .before .l2 .given .1) _ _ refl (until-fits (a .time) _ (a .pace) (s .pre .0) (s .pre .1) (sum-below (c .before .before .before .l2 .given .1) (c .before .before .before .before .before .before .before .before .before .before .before .line-loop .ensures .small))) (c .earlier .ensures) (search needs) _ refl d p
 
 pub serve-line-spec : {M : Type 1} → statement M
 serve-line-spec =
