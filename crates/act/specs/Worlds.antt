@@ -25,6 +25,16 @@ over d c table majors = withMajors (withTable (withScalars d (viewScalars (c .sc
 abbrev pub world : Device → Flow → List ℕ → List ℕ → List ℕ → List ℕ → World
 world d c w j t m = worldOf (over d c t m) w j (c .at)
 
+-- where a step stands
+abbrev pub flowOf : Step → Flow
+flowOf (Going c) = c
+flowOf (Refused r c) = c
+
+-- and, of it, the journal's end alone
+abbrev pub walkOf : Step → Walk
+walkOf (Going c) = On (c .at)
+walkOf (Refused r c) = Off r (c .at)
+
 unfoldable pub told : Step → Device → List ℕ → List ℕ → List ℕ → List ℕ → Out (Unit {0})
 told (Going c) d w j t m = ok tt (world d c w j t m)
 told (Refused r c) d w j t m = no (refusalNumber r) (world d c w j t m)

@@ -1,76 +1,100 @@
--- What the ends of calls promise, for every window, staging, base, and journal at entry. Assumes nothing.
-use mathlib.Core.Bool.{Bool}
-use mathlib.Core.List.{List}
+-- How acts end, on a device in parts, for every base, window and staging. Assumes nothing.
+use mathlib.Core.Bool.{Bool, false}
+use mathlib.Core.List.{List, _++_}
 use mathlib.Core.Path.{_≡_}
-use Prim.Native.Nat.{ℕ, zero, suc, _≤_}
-use lib.ListN.{length, take}
+use Prim.Native.Nat.{ℕ, _-_, _≤_, min}
+use lib.ListN.{length, take, replicate}
 use Rattle.rules.specs.Act.{Act}
-use Rattle.rules.specs.Calls.{Told, told, toldActed, toldAfter, verdictNumber, refusalNumber, worldOf, levelled}
-use Rattle.rules.specs.Carry.{Out, ok, unmade, cleared, go, leave, perform, Lent, lending}
-use Rattle.rules.specs.declared.Acted.{Acted}
+use Rattle.rules.specs.Calls.{toldAfter, refusalNumber, worldOf, levelled}
+use Rattle.rules.specs.Carry.{Out, ok, no, go, leave, perform, Lent}
 use Rattle.rules.specs.State.{Device}
-use Rattle.rules.specs.View.{view}
 use Rattle.rules.specs.declared.Heard.{Heard}
 use Rattle.rules.specs.declared.Heard.the-variants as Heard
-use Rattle.rules.specs.declared.Refusal.{Refusal}
+use Rattle.rules.specs.declared.Refusal.the-variants as Refusal
 use Rattle.rules.specs.declared.Verdict.{Verdict}
 use Rattle.rules.specs.declared.Verdict.the-variants as Verdict
-use Rattle.rules.proofs.Each.{Each}
-use Rattle.rules.proofs.Spares.{sparing}
-use Rattle.closing.specs.declared.Touched.{Touched}
-use Rattle.act.specs.Worlds.{told as step-told, walked}
+use Rattle.rules.proofs.Each.{Proper}
+use Rattle.act.specs.Parts.{Arrays, tabled, whole, SameLevels, toldDone}
+use Rattle.act.specs.Worlds.{told, walkOf}
+use Rattle.act.specs.declared.Core.{Core}
+use Rattle.act.specs.declared.Done.{Done}
 use Rattle.act.specs.declared.Step.{Step}
+use Rattle.act.specs.declared.Walk.{Walk}
+use Rattle.act.specs.declared.Walk.the-variants.{On, Off}
+use Rattle.closing.specs.declared.Noted.{Noted}
+use Rattle.closing.specs.declared.Noted.the-variants.{At, Full}
 use Rattle.acting.specs.declared.Reached.{Reached}
 
--- window and journal beside how far a write came
-abbrev pub reached : Reached → List ℕ → List ℕ → Out (Unit {0})
-reached r w j = walked (r .walk) (view (r .device)) w j
+-- ---- how far an act came
 
--- numbers and table are put back into a device
-abbrev pub Keeps : Device → Step → List ℕ → Reached → Type 0
-Keeps d s t r = (w j : List ℕ) → reached r w j ≡ step-told s d w j t (d .majors)
+-- as an end of its steps: the device of that core and the arrays x, window and journal; and what was heard, if it came on
+abbrev pub arrivedAt : Walk → Heard → Device → List ℕ → List ℕ → Out Heard
+arrivedAt (On at) h d w j = ok h (worldOf d w j at)
+arrivedAt (Off why at) h d w j = no (refusalNumber why) (worldOf d w j at)
 
--- what is heard, if the call is accepted
-unfoldable pub heardBy : Verdict → Heard → Heard
-heardBy Verdict.Accepted h = h
-heardBy (Verdict.Refused r) h = Heard.Nothing
+abbrev pub arrived : Heard → Reached → Arrays → List ℕ → List ℕ → Out Heard
+arrived h s x w j = arrivedAt (s .walk) h (whole (s .core) x) w j
 
-abbrev pub toldWith : Heard → Acted → List ℕ → List ℕ → List ℕ → Told
-toldWith h r window staging journal = told (verdictNumber (r .verdict)) (heardBy (r .verdict) h) (view (r .device)) window staging journal (r .used)
+-- it is not before the used length that it began with, nor past the journal's end
+abbrev pub Later : ℕ → Walk → List ℕ → Type 0
+Later used (On at) j = used ≤ min at (length j)
+Later used (Off why at) j = Unit {0}
 
--- the journal j₀ that the act began with, and j as it is now, are the same below the used length, and as long
+-- the journal j₀ that it began with, and j as it is now, are the same below the used length, and as long
 pub record Since (used : ℕ) (j₀ j : List ℕ) : Type 0 where
   pub front : take used j₀ ≡ take used j
   pub long : length j₀ ≡ length j
 
--- a refusal on the way
-abbrev pub TakenBack : Device → Refusal → ℕ → Acted → List ℕ → List ℕ → Type 0
-TakenBack d why used r j j′ = (w staging j₀ : List ℕ) (h : Heard) → Since used j₀ j
-    → toldWith h r w staging j′ ≡ toldAfter staging used (unmade (refusalNumber why) (cleared (worldOf d w j₀ used)))
+-- where the journal ends then
+abbrev pub endAt : Walk → ℕ
+endAt (On at) = at
+endAt (Off why at) = at
 
--- the end of an act that came to e, with its records up to `at`
-abbrev pub Ends : Device → Device → ℕ → ℕ → Acted → List ℕ → List ℕ → Type 0
-Ends d e used at r j j′ = (w staging j₀ : List ℕ) (h : Heard) → Since used j₀ j
-    → toldWith h r w staging j′ ≡ toldAfter staging used (leave (worldOf d w j₀ used) (ok h (worldOf e w j at)))
+-- where its last records begin
+abbrev pub begunAt : Walk → Noted
+begunAt (On at) = At at
+begunAt (Off why at) = Full
 
--- the arrays that are touched, by number
-abbrev pub touchedBy : Touched → ℕ → Bool
-touchedBy t zero = t .busy
-touchedBy t (suc zero) = t .majors
-touchedBy t (suc (suc zero)) = t .pending
-touchedBy t (suc (suc (suc zero))) = t .levels
-touchedBy t (suc (suc (suc (suc n)))) = t .taken
+-- ---- what it answers
 
--- an act that began with d got as far as s, and touches no other arrays
-pub record Began (d : Device) (s : Reached) (touched : Touched) (used : ℕ) (j : List ℕ) : Type 0 where
-  pub act : Act (Unit {0})
-  pub entry : List ℕ
-  pub fits : used ≤ length entry
-  pub goes : (base : ℕ) (lent : Lent) (w : List ℕ) → reached s w j ≡ go base lent act (worldOf d w entry used)
-  pub spares : Each (sparing (touchedBy touched)) act
+abbrev pub refusedBy : Core → Verdict → ℕ → Done
+refusedBy k v used = record { verdict = v; used = used; core = k }
 
--- of any such act, lines and level worked out anew after it
-abbrev pub Settles : Device → Reached → ℕ → Acted → List ℕ → List ℕ → Type 0
-Settles d s used r j j′ =
-    (act : Act (Unit {0})) (base : ℕ) (w staging j₀ : List ℕ) → used ≤ length j₀ → reached s w j ≡ go base (lending (length staging)) act (worldOf d w j₀ used)
-    → toldActed r w staging j′ ≡ toldAfter staging used (perform base (lending (length staging)) (levelled act) (worldOf d w j₀ used))
+abbrev pub doneAt : Core → Walk → Core → Noted → ℕ → Done
+doneAt k (Off why at) e n used = refusedBy k (Verdict.Refused why) used
+doneAt k (On at) e Full used = refusedBy k (Verdict.Refused Refusal.Room) used
+doneAt k (On at) e (At end) used = record { verdict = Verdict.Accepted; used = end; core = e }
+
+abbrev pub doneBy : Core → Reached → Noted → ℕ → Done
+doneBy k s n used = doneAt k (s .walk) (s .core) n used
+
+-- zero from the used length on
+abbrev pub clearedFrom : ℕ → List ℕ → List ℕ
+clearedFrom used j = take used j ++ replicate (length j - used) 0
+
+-- what stands after a call that ended so: the one after a refusal, else the other
+unfoldable pub standing : {A : Type 0} → Verdict → A → A → A
+standing Verdict.Accepted x y = y
+standing (Verdict.Refused n) x y = x
+
+-- ---- promises
+
+-- an act that began with the device d came to s, and to the device of core k and arrays x but for lines and level, which are worked out anew
+pub record Settled (k : Core) (x : Arrays) (s : Step) (r : Reached) (base : ℕ) (lent : Lent) (act : Act (Unit {0})) (d : Device) (w j₀ w′ j : List ℕ) (used : ℕ) : Type 0 where
+  pub left : perform base lent (levelled act) (worldOf d w j₀ used) ≡ leave (worldOf d w j₀ used) (arrived Heard.Nothing r x w′ j)
+  pub since : Since used j₀ j
+  pub later : Later used (r .walk) j
+  pub levels : SameLevels k (r .core)
+  pub ends : r .walk ≡ walkOf s
+
+abbrev pub Settles : Core → Step → Reached → Type 0
+Settles k s r = (x : Arrays) (base : ℕ) (lent : Lent) (act : Act (Unit {0})) (d : Device) (w j₀ w′ j : List ℕ) (used : ℕ) → Proper d → used ≤ length j₀
+    → told s (whole k x) w′ j (x .table) (x .majors) ≡ go base lent act (worldOf d w j₀ used)
+    → Settled k x s r base lent act d w j₀ w′ j used
+
+-- an act that began with core k and arrays x came to s and, of the arrays, to another table t; j₀ is the journal that it began with
+abbrev pub EndsCore : Core → Reached → Bool → ℕ → Done → List ℕ → List ℕ → Type 0
+EndsCore k s levels used r j j′ = (x : Arrays) (t : List ℕ) (base : ℕ) (lent : Lent) (m : Act Heard) (w j₀ z : List ℕ) → Proper (whole k x)
+    → used ≤ length j₀ → (levels ≡ false → SameLevels k (s .core)) → Since used j₀ j → Later used (s .walk) j
+    → perform base lent m (worldOf (whole k x) w j₀ used) ≡ leave (worldOf (whole k x) w j₀ used) (arrived Heard.Nothing s (tabled x t) w j)
+    → toldDone Heard.Nothing r (standing (r .verdict) x (tabled x t)) w z j′ ≡ toldAfter z used (perform base lent m (worldOf (whole k x) w j₀ used))

@@ -1,14 +1,14 @@
 -- A group's last records as a whole: they fit, all of them with the end record, or the act is not made. Assumes nothing.
 use mathlib.Core.Bool.{Bool, true, false}
 use mathlib.Core.List.{List, [], _∷_, _++_}
-use mathlib.Core.Path.{_≡_, refl, sym, ap, _∙_}
-use Prim.Native.Nat.{ℕ, suc, _+_, _-_, _*_, _/_, _≤_, _<_}
+use mathlib.Core.Path.{_≡_, refl, sym, ap, _∙_, subst}
+use Prim.Native.Nat.{ℕ, suc, _+_, _-_, _*_, _/_, _≤_, _<_, min}
 use native.Mathlib.Nat.{add-zero}
 use native.Mathlib.Omega.{arith}
 use borrow.Author.Tests.{le-leb, lt-leb, leb-true, leb-false}
 use lib.Dec.{leb}
-use lib.ListN.{length, take, drop, length-append, length-drop}
-use lib.Seq.{take-set-le, take-at, drop-at, drop-drop, length-take-le}
+use lib.ListN.{length, take, drop, length-append, length-drop, drop-of-length-le}
+use lib.Seq.{take-set-le, take-all, take-at, drop-at, drop-drop, length-take-le}
 use Rattle.rules.specs.Bytes.{splice}
 use Rattle.rules.specs.Calls.{worldOf}
 use Rattle.rules.specs.Carry.{World, Rec, lineOf, linesOf, endLine, changed, lastLines, written, After, made, unmade, ok, cleared, leave}
@@ -58,6 +58,25 @@ too-many used (r ∷ rs) at j k =
 abbrev Past : ℕ → Noted → Type 0
 Past n (At at) = n ≤ at
 Past n Full = Unit {0}
+
+-- a record that was added stands within the journal
+abbrev Inside : Noting → Type 0
+Inside (noting (At at) j) = at ≤ length j
+Inside (noting Full j) = Unit {0}
+
+add-inside : (l : List ℕ) (s : Noting) → Inside (add l s)
+unfolding add
+add-inside l (noting Full j) = tt
+add-inside l (noting (At at) j) = by (leb (at + 16) (length j)) refl
+  where
+    by : (t : Bool) → leb (at + 16) (length j) ≡ t → Inside (add l (noting (At at) j))
+    by true q = let f : at + 16 ≤ length j = leb-true _ _ q in rw (q, add) (omega (arith, length-splice j at l))
+    by false q = rw (q, add) tt
+
+end-inside : (used : ℕ) (s : Noting) → Inside (addEnd used s)
+unfolding addEnd
+end-inside used (noting Full j) = tt
+end-inside used (noting (At at) j) = add-inside (endLine ((at - used) / 16)) (noting (At at) j)
 
 record Kept (n : ℕ) (j : List ℕ) (t : Noted) (j′ : List ℕ) : Type 0 where
   front : take n j′ ≡ take n j
@@ -147,28 +166,46 @@ module _ (used at : ℕ) (rs : List Rec) (j : List ℕ) (h : used ≤ at) (k : a
 journalOf : Noting → List ℕ
 journalOf (noting t j) = j
 
-module _ (xs ys : List ℕ) (used at : ℕ) (j : List ℕ) {r : Noted} {j′ : List ℕ} (h : used ≤ at) (k : at ≤ length j)
+-- an end past the journal stands for the journal's end
+pub world-within : (d : Device) (w j : List ℕ) (at : ℕ) → length j ≤ at → worldOf d w j at ≡ worldOf d w j (length j)
+world-within d w j at h =
+    rw (take-all at j h, take-all (length j) j (omega arith), drop-of-length-le j {i = at} h, drop-of-length-le j {i = length j} (omega arith)) refl
+
+module _ (xs ys : List ℕ) (used at : ℕ) (j : List ℕ) {r : Noted} {j′ : List ℕ} (h : used ≤ min at (length j))
     (group : noting r j′ ≡ addEnd used (addAll (changed 0 xs ys) (noting (At at) j)))
   where
     rs : List Rec
     rs = changed 0 xs ys
 
-    ends-so : (u : World) (d : Device) (w : List ℕ) → fieldsOf (u .now .dev) ≡ xs → fieldsOf d ≡ ys → length (u .used) ≡ used
-        → closed r (tt {0}) u d w j′ ≡ leave u (ok tt (worldOf d w j at))
-    unfolding closed place journalOf v rs
-    ends-so u d w p q b = by (leb (at + 16 * suc (length rs)) (length j)) refl
-      where
-        fields : changed 0 (fieldsOf (u .now .dev)) (fieldsOf d) ≡ rs
-        fields = rw (p, q)
+    module _ (u : World) (d : Device) (w : List ℕ) (p : fieldsOf (u .now .dev) ≡ xs) (q : fieldsOf d ≡ ys) (b : length (u .used) ≡ used) where
+      fields : changed 0 (fieldsOf (u .now .dev)) (fieldsOf d) ≡ rs
+      unfolding rs
+      fields = rw (p, q)
 
-        by : (t : Bool) → leb (at + 16 * suc (length rs)) (length j) ≡ t → closed r (tt {0}) u d w j′ ≡ leave u (ok tt (worldOf d w j at))
-        by true t =
-            let f : at + 16 * suc (length rs) ≤ length j = leb-true _ _ t in
-            let e : noting r j′ ≡ noting (At (at + length (last used at rs j h k))) (splice j at (last used at rs j h k)) = group ∙ group-fits used at rs j h k f in
-            rw (ap place e, ap journalOf e) (sym (made-so used at rs j h k u d w b fields f))
-        by false t =
-            let f : length j < at + 16 * suc (length rs) = leb-false _ _ t in
-            rw (ap place group ∙ too-many used rs at j f) (sym (left-out used at rs j h k u d w b fields f))
+      not-so : length j < at + 16 * suc (length rs) → closed r (tt {0}) u d w j′ ≡ unmade 11 (cleared u)
+      unfolding closed place rs
+      not-so f = rw (ap place group ∙ too-many used rs at j f)
+
+      within-so : at ≤ length j → closed r (tt {0}) u d w j′ ≡ leave u (ok tt (worldOf d w j at))
+      unfolding closed place journalOf v rs
+      within-so k = by (leb (at + 16 * suc (length rs)) (length j)) refl
+        where
+          by : (t : Bool) → leb (at + 16 * suc (length rs)) (length j) ≡ t → closed r (tt {0}) u d w j′ ≡ leave u (ok tt (worldOf d w j at))
+          by true t =
+              let f : at + 16 * suc (length rs) ≤ length j = leb-true _ _ t in
+              let e : noting r j′ ≡ noting (At (at + length (last used at rs j (omega arith) k))) (splice j at (last used at rs j (omega arith) k)) = group ∙ group-fits used at rs j (omega arith) k f in
+              rw (ap place e, ap journalOf e) (sym (made-so used at rs j (omega arith) k u d w b fields f))
+          by false t = let f : length j < at + 16 * suc (length rs) = leb-false _ _ t in not-so f ∙ sym (left-out used at rs j (omega arith) k u d w b fields f)
+
+      ends-so : closed r (tt {0}) u d w j′ ≡ leave u (ok tt (worldOf d w j at))
+      unfolding v rs
+      ends-so = by (leb at (length j)) refl
+        where
+          by : (t : Bool) → leb at (length j) ≡ t → closed r (tt {0}) u d w j′ ≡ leave u (ok tt (worldOf d w j at))
+          by true t = within-so (leb-true _ _ t)
+          by false t =
+              let f : length j < at = leb-false _ _ t in
+              not-so (omega arith) ∙ sym (rw (world-within d w j at (omega arith)) (left-out used (length j) rs j (omega arith) (omega arith) u d w b fields (omega arith)))
 
     kept : Kept at j r j′
     unfolding rs
@@ -176,8 +213,16 @@ module _ (xs ys : List ℕ) (used at : ℕ) (j : List ℕ) {r : Noted} {j′ : L
         let began : Kept at j (At at) j = record { front = refl; long = refl; past = omega arith } in
         rw (← group) at (end-keeps at used j (addAll rs (noting (At at) j)) (all-keep at j rs (noting (At at) j) began))
 
+    ends-inside : (e : ℕ) → r ≡ At e → e ≤ length j′
+    ends-inside e q = rw q at (subst Inside (sym group) (end-inside used (addAll (changed 0 xs ys) (noting (At at) j))))
+
     pub group-closes : Closes r xs ys used at j j′
-    group-closes = record { ends = ends-so; front = kept .front; long = kept .long }
+    group-closes = record { ends = ends-so; front = kept .front; long = kept .long; inside = ends-inside }
+
+-- where nothing could be added to begin with, nothing was
+pub all-full-so : (used : ℕ) (qs : List Rec) (j : List ℕ) {r : Noted} {j′ : List ℕ} → noting r j′ ≡ addEnd used (addAll qs (noting Full j)) → j′ ≡ j
+unfolding addEnd journalOf
+all-full-so used qs j e = ap journalOf (e ∙ ap (addEnd used) (sym (all-full qs j)))
 
 -- ---- whatever the answer is
 

@@ -1,5 +1,5 @@
 -- The fields in number order, part after part, with what no act changes between them. Assumes nothing.
-use mathlib.Core.List.{List, [], _∷_, _++_, append-assoc, append-nil, map}
+use mathlib.Core.List.{List, [], _∷_, _++_, append-assoc, append-nil}
 use mathlib.Core.Path.{_≡_, refl, sym, ap, ap₂, _∙_}
 use Prim.Native.Nat.{ℕ, _+_, _-_}
 use native.Mathlib.Omega.{arith}
@@ -8,12 +8,12 @@ use Rattle.rules.specs.Carry.{changed}
 use Rattle.rules.specs.Fields.{joined, ownOf, partsOf, fieldsOf, controller, masksOf}
 use Rattle.rules.specs.Scalars.{scalarBits, viewScalars}
 use Rattle.rules.specs.State.{Controller}
-use Rattle.rules.specs.View.{viewController, view}
-use Rattle.rules.specs.declared.Controller.{Controller as HeldController}
-use Rattle.rules.specs.declared.Device.{Device as HeldDevice}
-use Rattle.rules.specs.declared.Scalars.{Scalars}
+use Rattle.rules.proofs.Each.{Proper}
+use Rattle.rules.proofs.FieldLaws.{sized, levels-long}
 use Rattle.rules.proofs.ViewLaws.{controller-viewed}
-use Rattle.closing.specs.Closes.{Noting, noting, addAll, Notes, Part, heldAt, headIn, lowIn, highIn, fieldsIn, SameLevels}
+use Rattle.act.specs.Parts.{Arrays, whole, heldAt, SameLevels}
+use Rattle.act.specs.declared.Core.{Core}
+use Rattle.closing.specs.Closes.{Noting, noting, addAll, Notes, Part, coreIn, levelsIn}
 use Rattle.closing.specs.declared.Noted.{Noted}
 use Rattle.closing.proofs.Laws.{part-on, same-on, none-changed}
 
@@ -27,87 +27,103 @@ own-on : (s : Noted) (j : List ℕ) (n k : ℕ) (b a : Controller) (xs ys : List
     → o ≡ addAll (changed k xs ys) (noting t i) → o ≡ addAll (changed n (masksOf b xs) (masksOf a ys)) (noting s j)
 own-on s j n k b a xs ys e p f = part-on n k (masksOf b []) (masksOf a []) xs ys (noting s j) refl e p f
 
--- ---- 0 to 63, 0 to 255, from 256 on, all
+-- ---- 0 to 63, 256 to 447
 
-module _ (s : Noted) (j : List ℕ) (b a : Scalars) (kb ka : List HeldController) {t₁ t₂ t₃ r : Noted} {j₁ j₂ j₃ j′ : List ℕ} where
-  pub head-done : Notes 0 (viewScalars b) (viewScalars a) s t₁ j j₁
-      → Notes 16 (masksOf (heldAt kb 0) []) (masksOf (heldAt ka 0) []) t₁ t₂ j₁ j₂
-      → Notes 20 (masksOf (heldAt kb 1) []) (masksOf (heldAt ka 1) []) t₂ t₃ j₂ j₃
-      → Notes 24 (masksOf (heldAt kb 2) []) (masksOf (heldAt ka 2) []) t₃ r j₃ j′
-      → Notes 0 (headIn b kb) (headIn a ka) s r j j′
-  unfolding headIn
-  head-done e f g h =
-      part-on 0 (length scalarBits) (viewScalars b) (viewScalars a) _ _ (noting s j) refl refl e
+module _ (s : Noted) (j : List ℕ) (b a : Core) {t₁ t₂ t₃ r : Noted} {j₁ j₂ j₃ j′ : List ℕ} where
+  pub core-done : Notes 0 (viewScalars (b .scalars)) (viewScalars (a .scalars)) s t₁ j j₁
+      → Notes 16 (masksOf (heldAt b 0) []) (masksOf (heldAt a 0) []) t₁ t₂ j₁ j₂
+      → Notes 20 (masksOf (heldAt b 1) []) (masksOf (heldAt a 1) []) t₂ t₃ j₂ j₃
+      → Notes 24 (masksOf (heldAt b 2) []) (masksOf (heldAt a 2) []) t₃ r j₃ j′
+      → Notes 0 (coreIn b) (coreIn a) s r j j′
+  unfolding coreIn
+  core-done e f g h =
+      part-on 0 (length scalarBits) (viewScalars (b .scalars)) (viewScalars (a .scalars)) _ _ (noting s j) refl refl e
       (same-on (length scalarBits) 16 (replicate (16 - length scalarBits) 0) _ _ (noting t₁ j₁) refl
-      (own-on t₁ j₁ 16 20 (heldAt kb 0) (heldAt ka 0) _ _ refl f
-      (own-on t₂ j₂ 20 24 (heldAt kb 1) (heldAt ka 1) _ _ refl g
-      (own-on t₃ j₃ 24 28 (heldAt kb 2) (heldAt ka 2) _ _ refl h
+      (own-on t₁ j₁ 16 20 (heldAt b 0) (heldAt a 0) _ _ refl f
+      (own-on t₂ j₂ 20 24 (heldAt b 1) (heldAt a 1) _ _ refl g
+      (own-on t₃ j₃ 24 28 (heldAt b 2) (heldAt a 2) _ _ refl h
       (none-changed 28 (replicate 36 0) (replicate 36 0) (noting r j′) refl)))))
 
-  pub low-done : {busy busy′ majors majors′ pending pending′ : List ℕ} → Notes 0 (headIn b kb) (headIn a ka) s t₁ j j₁ → Part 64 64 busy busy′ t₁ t₂ j₁ j₂
-      → Part 64 128 majors majors′ t₂ t₃ j₂ j₃ → Part 64 192 pending pending′ t₃ r j₃ j′ → Part 256 0 (lowIn b kb busy majors pending) (lowIn a ka busy′ majors′ pending′) s r j j′
-  unfolding lowIn headIn
-  low-done {busy} {busy′} {majors} {majors′} {pending} {pending′} e p q f = record {
-    long = long b kb busy majors pending (p .long) (q .long) (f .long);
-    long-now = long a ka busy′ majors′ pending′ (p .long-now) (q .long-now) (f .long-now);
+module _ (s : Noted) (j : List ℕ) (b a : Core) {t₁ t₂ r : Noted} {j₁ j₂ j′ : List ℕ} where
+  pub levels-done : Part 64 256 (heldAt b 0 .levels) (heldAt a 0 .levels) s t₁ j j₁ → Part 64 320 (heldAt b 1 .levels) (heldAt a 1 .levels) t₁ t₂ j₁ j₂
+      → Part 64 384 (heldAt b 2 .levels) (heldAt a 2 .levels) t₂ r j₂ j′ → Part 192 256 (levelsIn b) (levelsIn a) s r j j′
+  unfolding levelsIn
+  levels-done e f g = record {
+    long = long (heldAt b 0 .levels) (heldAt b 1 .levels) (heldAt b 2 .levels) (e .long) (f .long) (g .long);
+    long-now = long (heldAt a 0 .levels) (heldAt a 1 .levels) (heldAt a 2 .levels) (e .long-now) (f .long-now) (g .long-now);
     noted =
-        part-on 0 64 (headIn b kb) (headIn a ka) _ _ (noting s j) refl refl e
-        (rest-on t₁ j₁ 64 128 64 busy busy′ _ _ refl p (rest-on t₂ j₂ 128 192 64 majors majors′ _ _ refl q (f .noted)));
+        rest-on s j 256 320 64 (heldAt b 0 .levels) (heldAt a 0 .levels) _ _ refl e
+        (rest-on t₁ j₁ 320 384 64 (heldAt b 1 .levels) (heldAt a 1 .levels) _ _ refl f (g .noted));
   }
     where
-      long : (h : Scalars) (k : List HeldController) (x y z : List ℕ) → length x ≡ 64 → length y ≡ 64 → length z ≡ 64 → length (headIn h k ++ (x ++ (y ++ z))) ≡ 256
-      long h k x y z p q f = omega (arith, length-append (headIn h k) (x ++ (y ++ z)), length-append x (y ++ z), length-append y z)
+      long : (x y z : List ℕ) → length x ≡ 64 → length y ≡ 64 → length z ≡ 64 → length (x ++ (y ++ z)) ≡ 192
+      long x y z p q f = omega (arith, length-append x (y ++ z), length-append y z)
 
-pub high-done : (s : Noted) (j : List ℕ) (b a : List HeldController) (taken taken′ : List ℕ) {t₁ t₂ t₃ r : Noted} {j₁ j₂ j₃ j′ : List ℕ}
-    → Part 64 256 (heldAt b 0 .levels) (heldAt a 0 .levels) s t₁ j j₁ → Part 64 320 (heldAt b 1 .levels) (heldAt a 1 .levels) t₁ t₂ j₁ j₂
-    → Part 64 384 (heldAt b 2 .levels) (heldAt a 2 .levels) t₂ t₃ j₂ j₃ → Notes 576 taken taken′ t₃ r j₃ j′ → Notes 256 (highIn b taken) (highIn a taken′) s r j j′
-unfolding highIn
-high-done s j b a taken taken′ {t₁} {t₂} {t₃} {r} {j₁} {j₂} {j₃} e f g h =
-    rest-on s j 256 320 64 (heldAt b 0 .levels) (heldAt a 0 .levels) _ _ refl e
-    (rest-on t₁ j₁ 320 384 64 (heldAt b 1 .levels) (heldAt a 1 .levels) _ _ refl f
-    (rest-on t₂ j₂ 384 448 64 (heldAt b 2 .levels) (heldAt a 2 .levels) _ _ refl g
-    (same-on 448 576 (replicate 128 0) _ _ (noting t₃ j₃) refl h)))
+-- ---- what is the same needs no record
 
-module _ (s : Noted) (j : List ℕ) (b a : Scalars) (kb ka : List HeldController) (busy busy′ majors majors′ pending pending′ taken taken′ : List ℕ) {t r : Noted} {i j′ : List ℕ} where
-  pub all-done : Part 256 0 (lowIn b kb busy majors pending) (lowIn a ka busy′ majors′ pending′) s t j i
-      → Notes 256 (highIn kb taken) (highIn ka taken′) t r i j′
-      → Notes 0 (fieldsIn b kb busy majors pending taken) (fieldsIn a ka busy′ majors′ pending′ taken′) s r j j′
-  unfolding fieldsIn
-  all-done p f = rest-on s j 0 256 256 (lowIn b kb busy majors pending) (lowIn a ka busy′ majors′ pending′) _ _ refl p f
+pub same : (n : ℕ) (xs : List ℕ) (s : Noted) (j : List ℕ) → Notes n xs xs s s j j
+same n xs s j = none-changed n xs xs (noting s j) refl
 
--- where no level and no taken count has changed, nothing from 256 on has
-pub low-only : (s : Noted) (j : List ℕ) (b a : Scalars) (kb ka : List HeldController) (busy busy′ majors majors′ pending pending′ taken : List ℕ) {r : Noted} {j′ : List ℕ}
-    → SameLevels kb ka → Part 256 0 (lowIn b kb busy majors pending) (lowIn a ka busy′ majors′ pending′) s r j j′
-    → Notes 0 (fieldsIn b kb busy majors pending taken) (fieldsIn a ka busy′ majors′ pending′ taken) s r j j′
-unfolding highIn
-low-only s j b a kb ka busy busy′ majors majors′ pending pending′ taken same p =
-    all-done s j b a kb ka busy busy′ majors majors′ pending pending′ taken taken p (none-changed 256 _ _ _ (rw (same .first, same .second, same .third)))
+module _ (k l : Core) (x : Arrays) (p : Proper (whole k x)) where
+  levels-are : (c : ℕ) → length (controller (whole k x .controllers) c .levels) ≡ 64 → length (heldAt k c .levels) ≡ 64
+  levels-are c e = ap (λ (n : Controller). length (n .levels)) (sym (controller-viewed (k .controllers) c)) ∙ e
 
--- ---- a device that is whole
+  length-levels : length (levelsIn k) ≡ 192
+  unfolding levelsIn
+  length-levels =
+      let a = levels-are 0 (levels-long (whole k x) (p .sound) 0 (omega arith)) in
+      let b = levels-are 1 (levels-long (whole k x) (p .sound) 1 (omega arith)) in
+      let c = levels-are 2 (levels-long (whole k x) (p .sound) 2 (omega arith)) in
+      omega (arith, length-append (heldAt k 0 .levels) (heldAt k 1 .levels ++ heldAt k 2 .levels), length-append (heldAt k 1 .levels) (heldAt k 2 .levels))
 
-own-in : (d : HeldDevice) → viewScalars (d .scalars) ++ (replicate (16 - length scalarBits) 0 ++ ownOf (view d)) ≡ headIn (d .scalars) (d .controllers)
-unfolding ownOf headIn
-own-in d = rw (controller-viewed (d .controllers) 0, controller-viewed (d .controllers) 1, controller-viewed (d .controllers) 2) refl
+  pub same-part : SameLevels k l → (s : Noted) (j : List ℕ) → Part 192 256 (levelsIn k) (levelsIn l) s s j j
+  same-part e s j =
+      let q : levelsIn k ≡ levelsIn l = (unfold levelsIn in rw (e .first, e .second, e .third)) in
+      record { long = length-levels; long-now = ap length (sym q) ∙ length-levels; noted = none-changed 256 (levelsIn k) (levelsIn l) (noting s j) q }
 
-in-two : (s g h x y z k l m o t : List ℕ) → joined (s ∷ g ∷ h ∷ x ∷ y ∷ z ∷ k ∷ l ∷ m ∷ o ∷ t ∷ []) ≡ ((s ++ (g ++ h)) ++ (x ++ (y ++ z))) ++ (k ++ (l ++ (m ++ (o ++ t))))
+-- ---- all fields
+
+own-in : (k : Core) (x : Arrays) → viewScalars (k .scalars) ++ (replicate (16 - length scalarBits) 0 ++ ownOf (whole k x)) ≡ coreIn k
+unfolding ownOf coreIn
+own-in k x = rw (controller-viewed (k .controllers) 0, controller-viewed (k .controllers) 1, controller-viewed (k .controllers) 2) refl
+
+levels-in : (k : Core) (x : Arrays) → controller (whole k x .controllers) 0 .levels ++ (controller (whole k x .controllers) 1 .levels ++ controller (whole k x .controllers) 2 .levels) ≡ levelsIn k
+unfolding levelsIn
+levels-in k x = rw (controller-viewed (k .controllers) 0, controller-viewed (k .controllers) 1, controller-viewed (k .controllers) 2) refl
+
+in-parts : (s g h x y z k l m o t : List ℕ) → joined (s ∷ g ∷ h ∷ x ∷ y ∷ z ∷ k ∷ l ∷ m ∷ o ∷ t ∷ []) ≡ (s ++ (g ++ h)) ++ (x ++ (y ++ (z ++ ((k ++ (l ++ m)) ++ (o ++ t)))))
 unfolding joined
-in-two s g h x y z k l m o t = simp (append-assoc, append-nil)
+in-parts s g h x y z k l m o t = simp (append-assoc, append-nil)
 
-high-in : (d : HeldDevice)
-    → controller (view d .controllers) 0 .levels ++ (controller (view d .controllers) 1 .levels ++ (controller (view d .controllers) 2 .levels ++ (replicate 128 0 ++ d .taken)))
-    ≡ highIn (d .controllers) (d .taken)
-unfolding highIn
-high-in d = rw (controller-viewed (d .controllers) 0, controller-viewed (d .controllers) 1, controller-viewed (d .controllers) 2) refl
+fields-in : (k : Core) (x : Arrays) → fieldsOf (whole k x) ≡ coreIn k ++ (x .busy ++ (x .majors ++ (x .pending ++ (levelsIn k ++ (replicate 128 0 ++ x .taken)))))
+unfolding fieldsOf partsOf
+fields-in k x =
+    in-parts (viewScalars (k .scalars)) (replicate (16 - length scalarBits) 0) (ownOf (whole k x)) (x .busy) (x .majors) (x .pending) _ _ _ (replicate 128 0) (x .taken)
+    ∙ ap₂ (λ (h l : List ℕ). h ++ (x .busy ++ (x .majors ++ (x .pending ++ (l ++ (replicate 128 0 ++ x .taken)))))) (own-in k x) (levels-in k x)
 
-pub fields-in : (d : HeldDevice) → fieldsOf (view d) ≡ fieldsIn (d .scalars) (d .controllers) (d .busy) (d .majors) (d .pending) (d .taken)
-unfolding fieldsOf partsOf fieldsIn lowIn
-fields-in d =
-    in-two (viewScalars (d .scalars)) (replicate (16 - length scalarBits) 0) (ownOf (view d)) (d .busy) (d .majors) (d .pending) _ _ _ (replicate 128 0) (d .taken)
-    ∙ ap₂ (λ (h l : List ℕ). (h ++ (d .busy ++ (d .majors ++ d .pending))) ++ l) (own-in d) (high-in d)
+module _ (k : Core) (x : Arrays) (p : Proper (whole k x)) (s : Noted) (j : List ℕ) where
+  pub same-busy : Part 64 64 (x .busy) (x .busy) s s j j
+  unfolding partsOf
+  same-busy = let z = sized (whole k x) (p .sound) in record { long = z .1 .1 .1 .0; long-now = z .1 .1 .1 .0; noted = same 64 (x .busy) s j }
 
--- ---- levels of controllers as they are held
+  pub same-majors : Part 64 128 (x .majors) (x .majors) s s j j
+  unfolding partsOf
+  same-majors = let z = sized (whole k x) (p .sound) in record { long = z .1 .1 .1 .1 .0; long-now = z .1 .1 .1 .1 .0; noted = same 128 (x .majors) s j }
 
-pub same-held : (ks ls : List HeldController) (c : ℕ) → controller (map viewController ks) c .levels ≡ controller (map viewController ls) c .levels
-    → heldAt ks c .levels ≡ heldAt ls c .levels
-same-held ks ls c e =
-    ap (λ (k : Controller). k .levels) (sym (controller-viewed ks c)) ∙ e ∙ ap (λ (k : Controller). k .levels) (controller-viewed ls c)
+  pub same-pending : Part 64 192 (x .pending) (x .pending) s s j j
+  unfolding partsOf
+  same-pending = let z = sized (whole k x) (p .sound) in record { long = z .1 .1 .1 .1 .1 .0; long-now = z .1 .1 .1 .1 .1 .0; noted = same 192 (x .pending) s j }
+
+module _ (k l : Core) (x y : Arrays) (s : Noted) (j : List ℕ) {t₁ t₂ t₃ t₄ t₅ r : Noted} {j₁ j₂ j₃ j₄ j₅ j′ : List ℕ} where
+  pub all-noted : Notes 0 (coreIn k) (coreIn l) s t₁ j j₁ → Part 64 64 (x .busy) (y .busy) t₁ t₂ j₁ j₂ → Part 64 128 (x .majors) (y .majors) t₂ t₃ j₂ j₃
+      → Part 64 192 (x .pending) (y .pending) t₃ t₄ j₃ j₄ → Part 192 256 (levelsIn k) (levelsIn l) t₄ t₅ j₄ j₅ → Notes 576 (x .taken) (y .taken) t₅ r j₅ j′
+      → Notes 0 (fieldsOf (whole k x)) (fieldsOf (whole l y)) s r j j′
+  unfolding coreIn
+  all-noted e f g h i m =
+      rw (fields-in k x, fields-in l y)
+      (part-on 0 64 (coreIn k) (coreIn l) _ _ (noting s j) refl refl e
+      (rest-on t₁ j₁ 64 128 64 (x .busy) (y .busy) _ _ refl f
+      (rest-on t₂ j₂ 128 192 64 (x .majors) (y .majors) _ _ refl g
+      (rest-on t₃ j₃ 192 256 64 (x .pending) (y .pending) _ _ refl h
+      (rest-on t₄ j₄ 256 448 192 (levelsIn k) (levelsIn l) _ _ refl i
+      (same-on 448 576 (replicate 128 0) _ _ (noting t₅ j₅) refl m))))))

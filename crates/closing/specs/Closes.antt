@@ -1,24 +1,20 @@
 -- The end of an act: records one after the other, until one does not fit, and what then is there. Assumes nothing.
-use mathlib.Core.Bool.{Bool, cond, false}
+use mathlib.Core.Bool.{cond}
 use mathlib.Core.List.{List, [], _∷_, _++_}
 use mathlib.Core.Path.{_≡_}
-use Prim.Native.Nat.{ℕ, _+_, _-_, _/_, _^_, _<_}
+use Prim.Native.Nat.{ℕ, _+_, _-_, _/_, _^_, _≤_, _<_}
 use lib.Dec.{leb}
-use lib.ListN.{length, getD, take, replicate}
+use lib.ListN.{length, take, replicate}
 use Rattle.rules.specs.Bytes.{splice}
 use Rattle.rules.specs.Calls.{worldOf}
 use Rattle.rules.specs.Carry.{World, Rec, lineOf, endLine, changed, After, made, unmade, ok, cleared, leave}
 use Rattle.rules.specs.Fields.{masksOf, fieldsOf}
 use Rattle.rules.specs.Scalars.{scalarBits, viewScalars}
-use Rattle.rules.specs.State.{Controller, Device}
-use Rattle.rules.specs.View.{viewController}
-use Rattle.rules.specs.declared.Controller.{Controller as HeldController}
-use Rattle.rules.specs.declared.Device.{Device as HeldDevice}
-use Rattle.rules.specs.declared.Scalars.{Scalars}
-use Rattle.rules.proofs.ViewLaws.{noHeld}
+use Rattle.rules.specs.State.{Device}
+use Rattle.act.specs.Parts.{heldAt}
+use Rattle.act.specs.declared.Core.{Core}
 use Rattle.closing.specs.declared.Noted.{Noted}
 use Rattle.closing.specs.declared.Noted.the-variants.{At, Full}
-use Rattle.closing.specs.declared.Touched.{Touched}
 
 -- ---- records, one after the other
 
@@ -52,50 +48,21 @@ pub record Part (m n : ℕ) (b a : List ℕ) (s r : Noted) (j j′ : List ℕ) :
   pub long-now : length a ≡ m
   pub noted : Notes n b a s r j j′
 
--- what is asked of the two arrays: numbers that a record's place can hold, and no change where none is said to be
-pub record Arrays (touched : Bool) (n : ℕ) (b a : List ℕ) : Type 0 where
+-- what is asked of the two arrays: as long as each other, and numbers that a record's place can hold
+pub record Noteworthy (n : ℕ) (b a : List ℕ) : Type 0 where
   pub alike : length b ≡ length a
   pub places : n + length b < 2 ^ 32
-  pub spared : touched ≡ false → b ≡ a
 
 -- ---- the fields of a device that is held in parts
 
--- what one of several controllers stands for
-abbrev pub heldAt : List HeldController → ℕ → Controller
-heldAt cs c = viewController (getD cs c noHeld)
-
 -- 0 to 63
-unfoldable pub headIn : Scalars → List HeldController → List ℕ
-headIn s k =
-    viewScalars s ++ (replicate (16 - length scalarBits) 0 ++ masksOf (heldAt k 0) (masksOf (heldAt k 1) (masksOf (heldAt k 2) (replicate 36 0))))
+unfoldable pub coreIn : Core → List ℕ
+coreIn k =
+    viewScalars (k .scalars) ++ (replicate (16 - length scalarBits) 0 ++ masksOf (heldAt k 0) (masksOf (heldAt k 1) (masksOf (heldAt k 2) (replicate 36 0))))
 
--- 0 to 255; busy, majors, pending
-unfoldable pub lowIn : Scalars → List HeldController → List ℕ → List ℕ → List ℕ → List ℕ
-lowIn s k busy majors pending = headIn s k ++ (busy ++ (majors ++ pending))
-
--- from 256 on; taken
-unfoldable pub highIn : List HeldController → List ℕ → List ℕ
-highIn k taken = heldAt k 0 .levels ++ (heldAt k 1 .levels ++ (heldAt k 2 .levels ++ (replicate 128 0 ++ taken)))
-
-unfoldable pub fieldsIn : Scalars → List HeldController → List ℕ → List ℕ → List ℕ → List ℕ → List ℕ
-fieldsIn s k busy majors pending taken = lowIn s k busy majors pending ++ highIn k taken
-
--- the levels of the three controllers are the same
-pub record SameLevels (k l : List HeldController) : Type 0 where
-  pub first : heldAt k 0 .levels ≡ heldAt l 0 .levels
-  pub second : heldAt k 1 .levels ≡ heldAt l 1 .levels
-  pub third : heldAt k 2 .levels ≡ heldAt l 2 .levels
-
--- an array that is not touched is the same before and after
-pub record Spared (t : Touched) (k l : List HeldController) (busy busy′ majors majors′ pending pending′ taken taken′ : List ℕ) : Type 0 where
-  pub same-busy : t .busy ≡ false → busy ≡ busy′
-  pub same-majors : t .majors ≡ false → majors ≡ majors′
-  pub same-pending : t .pending ≡ false → pending ≡ pending′
-  pub same-levels : t .levels ≡ false → SameLevels k l
-  pub same-taken : t .taken ≡ false → taken ≡ taken′
-
-abbrev pub SparedOf : Touched → HeldDevice → HeldDevice → Type 0
-SparedOf t d e = Spared t (d .controllers) (e .controllers) (d .busy) (e .busy) (d .majors) (e .majors) (d .pending) (e .pending) (d .taken) (e .taken)
+-- 256 to 447
+unfoldable pub levelsIn : Core → List ℕ
+levelsIn k = heldAt k 0 .levels ++ (heldAt k 1 .levels ++ heldAt k 2 .levels)
 
 -- ---- how an act that began at u and reached device d ends: made, or refused for want of room
 
@@ -104,9 +71,11 @@ closed (At e) a u d w j = made a (worldOf d w j e)
 closed Full a u d w j = unmade 11 (cleared u)
 
 -- what the end of an act promises, of every world that it began in with the fields xs, and every device that it reached with the fields ys;
--- and the journal is the same below `at`, also where a record did not fit. (`closes` of proofs/Group has it for every answer.)
+-- and the journal is the same below `at`, also where a record did not fit, and does not end past its last byte. (`closes` of proofs/Group has
+-- it for every answer.)
 pub record Closes (r : Noted) (xs ys : List ℕ) (used at : ℕ) (j j′ : List ℕ) : Type 0 where
   pub ends : (u : World) (d : Device) (w : List ℕ) → fieldsOf (u .now .dev) ≡ xs → fieldsOf d ≡ ys → length (u .used) ≡ used
       → closed r (tt {0}) u d w j′ ≡ leave u (ok tt (worldOf d w j at))
   pub front : take at j′ ≡ take at j
   pub long : length j′ ≡ length j
+  pub inside : (e : ℕ) → r ≡ At e → e ≤ length j′

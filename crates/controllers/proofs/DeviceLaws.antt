@@ -6,6 +6,7 @@ use Prim.Native.Nat.{ℕ, zero, suc, _+_, _%_, _^_, _<_, max}
 use native.Mathlib.Nat.{mod-lt}
 use native.Mathlib.Omega.{arith}
 use borrow.Author.Tests.{eq-eqb, ne-eqb}
+use lib.Dec.{lit<}
 use lib.ListN.{length, getD, set}
 use lib.Pow.{pow-pos}
 use lib.Seq.{ext-getD}
@@ -17,15 +18,16 @@ use Rattle.rules.specs.Scalars.{INT, LEVEL}
 use Rattle.rules.specs.Bytes.{part}
 use Rattle.rules.specs.Carry.{go}
 use Rattle.rules.specs.Fields.{controller, bitsOf, holds, withField}
-use Rattle.rules.specs.View.{viewController, view}
+use Rattle.rules.specs.View.{viewController}
 use Rattle.rules.specs.With.{withControllers, withLines}
 use Rattle.rules.specs.declared.Controller.{Controller as HeldController}
-use Rattle.rules.specs.declared.Device.{Device as HeldDevice}
 use Rattle.rules.specs.Lines.{driven, sources, levelBytes, levelOf, relevel, above, heardFrom, hear, acknowledge, Found}
 use Rattle.rules.proofs.BytesLaws.{length-part, getD-part}
 use Rattle.rules.proofs.FieldLaws.{in-three, Sound, levels-long, holds-fits}
 use Rattle.rules.proofs.ViewLaws.{map-set, noHeld, controller-viewed}
 use Rattle.act.specs.Does.{Answers, Does}
+use Rattle.act.specs.Parts.{Arrays, whole, heldAt, SameLevels}
+use Rattle.act.specs.declared.Core.{Core}
 use Rattle.act.proofs.DoesLaws.{answers-done, answers-ask, answers-bind, answers-then, does-put, does-change}
 use Rattle.controllers.proofs.MaskParts.{driven-fits}
 use Rattle.controllers.specs.Levels.{sourcesOf, levelIn, drivenIn, controllersIn, highestIn, loudIn}
@@ -138,6 +140,33 @@ relevel-does d s {n = n} lines e h =
     (λ a b c t k. unfold x y z in three-does d a b c t n h k)
     (d .controllers) (s .three) s e)
 
+-- ---- three controllers stored anew, with the level bytes of the old ones
+
+levels-stored : (cs : List Controller) → length cs ≡ 3 → (x y z : Controller) → controller cs 0 .levels ≡ x .levels → controller cs 1 .levels ≡ y .levels
+    → controller cs 2 .levels ≡ z .levels → (c : ℕ) → c < 3 → controller cs c .levels ≡ controller (stored3 cs x y z) c .levels
+levels-stored cs three x y z p q r c h =
+    in-three (λ ds. controller ds 0 .levels ≡ x .levels → controller ds 1 .levels ≡ y .levels → controller ds 2 .levels ≡ z .levels
+    → controller ds c .levels ≡ controller (stored3 ds x y z) c .levels) (one c h) cs three p q r
+  where
+    one : (c : ℕ) → c < 3 → (a b d : Controller) → a .levels ≡ x .levels → b .levels ≡ y .levels → d .levels ≡ z .levels
+        → controller (a ∷ b ∷ d ∷ []) c .levels ≡ controller (x ∷ y ∷ z ∷ []) c .levels
+    one zero h a b d p q r = p
+    one (suc zero) h a b d p q r = q
+    one (suc (suc zero)) h a b d p q r = r
+    one (suc (suc (suc c))) h a b d p q r = absurd (omega arith)
+
+pub same-levels : (k l : Core) → length (map viewController (k .controllers)) ≡ 3 → (x y z : Controller) → controller (map viewController (k .controllers)) 0 .levels ≡ x .levels
+    → controller (map viewController (k .controllers)) 1 .levels ≡ y .levels → controller (map viewController (k .controllers)) 2 .levels ≡ z .levels
+    → map viewController (l .controllers) ≡ stored3 (map viewController (k .controllers)) x y z → SameLevels k l
+same-levels k l three x y z p q r e = record { first = at 0 (lit< tt); second = at 1 (lit< tt); third = at 2 (lit< tt) }
+  where
+    at : (c : ℕ) → c < 3 → heldAt k c .levels ≡ heldAt l c .levels
+    at c h =
+        ap (λ (k : Controller). k .levels) (sym (controller-viewed (k .controllers) c))
+        ∙ levels-stored (map viewController (k .controllers)) three x y z p q r c h
+        ∙ ap (λ (cs : List Controller). controller cs c .levels) (sym e)
+        ∙ ap (λ (k : Controller). k .levels) (controller-viewed (l .controllers) c)
+
 -- ---- acknowledge
 
 module _ (d : Device) (l i : ℕ) where
@@ -165,13 +194,13 @@ acknowledge-answers d s ipl e0 e1 e2 a r h =
     (rw (← e1) (answers-bind _ _ d d r _ _ (heard-answers d 2 (levels-long d s 2 (omega arith)) ipl _)
     (rw (← e2) h)))))
 
--- the same of a device as code holds it
-abbrev heardHeld : HeldDevice → ℕ → ℕ → Found
-heardHeld d ipl c = loudIn ipl (d .«ignore_masks») (viewController (getD (d .controllers) c noHeld))
+-- the same of a device in parts
+abbrev heardHeld : Core → ℕ → ℕ → Found
+heardHeld k ipl c = loudIn ipl (k .«ignore_masks») (heldAt k c)
 
-pub acknowledge-held : (d : HeldDevice) → Sound (view d) → (ipl : ℕ) {h0 h1 h2 : Found} → h0 ≡ above 0 (heardHeld d ipl 0) (0, 0) → h1 ≡ above 1 (heardHeld d ipl 1) h0 → h2 ≡ above 2 (heardHeld d ipl 2) h1
-    → (a : Heard) (r : Device) → Answers (hear h2) (view d) a r → Answers (acknowledge ipl) (view d) a r
-acknowledge-held d s ipl {h0} {h1} {h2} e0 e1 e2 = acknowledge-answers (view d) s ipl (e0 ∙ at 0 (0, 0)) (e1 ∙ at 1 h0) (e2 ∙ at 2 h1)
+pub acknowledge-held : (k : Core) (x : Arrays) → Sound (whole k x) → (ipl : ℕ) {h0 h1 h2 : Found} → h0 ≡ above 0 (heardHeld k ipl 0) (0, 0) → h1 ≡ above 1 (heardHeld k ipl 1) h0 → h2 ≡ above 2 (heardHeld k ipl 2) h1
+    → (a : Heard) (r : Device) → Answers (hear h2) (whole k x) a r → Answers (acknowledge ipl) (whole k x) a r
+acknowledge-held k x s ipl {h0} {h1} {h2} e0 e1 e2 = acknowledge-answers (whole k x) s ipl (e0 ∙ at 0 (0, 0)) (e1 ∙ at 1 h0) (e2 ∙ at 2 h1)
   where
-    at : (c : ℕ) (below : Found) → above c (heardHeld d ipl c) below ≡ above c (loudIn ipl (d .«ignore_masks») (controller (map viewController (d .controllers)) c)) below
-    at c below = ap (λ (k : Controller). above c (loudIn ipl (d .«ignore_masks») k) below) (sym (controller-viewed (d .controllers) c))
+    at : (c : ℕ) (below : Found) → above c (heardHeld k ipl c) below ≡ above c (loudIn ipl (k .«ignore_masks») (controller (map viewController (k .controllers)) c)) below
+    at c below = ap (λ (n : Controller). above c (loudIn ipl (k .«ignore_masks») n) below) (sym (controller-viewed (k .controllers) c))

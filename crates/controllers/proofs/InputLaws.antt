@@ -1,14 +1,14 @@
 -- The acts that give the device its inputs, said of its fields. Assumes nothing.
 use mathlib.Core.Bool.{cond}
 use mathlib.Core.List.{List, map}
-use mathlib.Core.Path.{_≡_, sym, ap, _∙_}
+use mathlib.Core.Path.{_≡_, refl, sym, ap, _∙_}
 use Prim.Native.Nat.{ℕ, zero, suc, _+_, _-_, _^_, _≤_, _<_}
 use native.Mathlib.Nat.{lt-of-le-of-lt}
 use native.Mathlib.Numerals.{add-one}
 use native.Mathlib.Omega.{arith}
 use lib.Bits.{bitAnd, bitOr, or-lt, and-le-r}
 use lib.Dec.{eqb}
-use lib.ListN.{getD}
+use lib.ListN.{length, getD}
 use lib.Seq.{getD-set-other}
 use Rattle.rules.specs.State.{Controller, Device}
 use Rattle.rules.specs.Act.{LINES, PENDING}
@@ -17,18 +17,19 @@ use Rattle.rules.specs.Calls.{setInputs}
 use Rattle.rules.specs.Fields.{controller, bitsOf, holds, withField}
 use Rattle.rules.specs.Lines.{ownedFrom}
 use Rattle.rules.specs.Run.{waiting, requesting}
-use Rattle.rules.specs.View.{viewController, view}
+use Rattle.rules.specs.View.{viewController}
 use Rattle.rules.specs.With.{withControllers, withLines}
 use Rattle.rules.specs.Words.{gain}
 use Rattle.rules.specs.declared.Controller.{Controller as HeldController}
-use Rattle.rules.specs.declared.Device.{Device as HeldDevice}
 use Rattle.rules.proofs.FieldLaws.{in-three, Sound, holds-fits}
-use Rattle.rules.proofs.ViewLaws.{noHeld, controller-viewed}
+use Rattle.rules.proofs.ViewLaws.{controller-viewed}
 use Rattle.act.specs.Does.{Answers, Does}
+use Rattle.act.specs.Parts.{Arrays, whole, heldAt, SameLevels}
+use Rattle.act.specs.declared.Core.{Core}
 use Rattle.act.proofs.DoesLaws.{answers-done, answers-ask, answers-bind, answers-then, does-put, does-change}
 use Rattle.controllers.specs.Waiting.{waitingIn}
 use Rattle.controllers.proofs.MaskParts.{owned-fits}
-use Rattle.controllers.proofs.DeviceLaws.{stored3, stored-viewed, with3}
+use Rattle.controllers.proofs.DeviceLaws.{stored3, stored-viewed, with3, same-levels}
 
 -- ---- requesting channels
 
@@ -59,12 +60,12 @@ waiting-end counts i m whole h w = let q : 64 - i ≡ 0 = omega arith in rw q at
 abbrev pub giving : Device → ℕ → ℕ → Controller
 giving d c lines = withLines (controller (d .controllers) c) (ownedFrom c (controller (d .controllers) c .lines) lines)
 
--- the same of one as code holds it
-abbrev pub givingHeld : HeldDevice → ℕ → ℕ → Controller
-givingHeld d c lines = let k = getD (d .controllers) c noHeld in withLines (viewController k) (ownedFrom c (k .lines) lines)
+-- the same of a core
+abbrev pub givingHeld : Core → ℕ → ℕ → Controller
+givingHeld k c lines = withLines (heldAt k c) (ownedFrom c (heldAt k c .lines) lines)
 
-giving-viewed : (d : HeldDevice) (c lines : ℕ) → givingHeld d c lines ≡ giving (view d) c lines
-giving-viewed d c lines = ap (λ (k : Controller). withLines k (ownedFrom c (k .lines) lines)) (sym (controller-viewed (d .controllers) c))
+giving-viewed : (k : Core) (x : Arrays) (c lines : ℕ) → givingHeld k c lines ≡ giving (whole k x) c lines
+giving-viewed k x c lines = ap (λ (n : Controller). withLines n (ownedFrom c (n .lines) lines)) (sym (controller-viewed (k .controllers) c))
 
 -- KICK gains those that request and have their ERQ bit set
 abbrev pub gaining : Device → ℕ → ℕ
@@ -125,8 +126,17 @@ module _ (s l0 l1 l2 : ℕ) (hs : s < 2 ^ 64) (h0 : l0 < 2 ^ 64) (h1 : l1 < 2 ^ 
       (λ a b c t asks. unfold x y z in three-given d a b c t asking asks)
       (d .controllers) (t .three) t)
 
-  -- the same of a device as code holds it
-  pub inputs-held : (d : HeldDevice) → Sound (view d) → (asking : ℕ) {x y z : HeldController} → viewController x ≡ givingHeld d 0 l0 → viewController y ≡ givingHeld d 1 l1 → viewController z ≡ givingHeld d 2 l2
-      → let e = given (view d) (map viewController (stored3 (d .controllers) x y z)) in Answers requesting e asking e → Does (setInputs s l0 l1 l2) (view d) (withField KICK (gaining e asking) e)
-  inputs-held d t asking {x} {y} {z} ex ey ez =
-      rw (stored-viewed (d .controllers) x y z) (inputs-does (view d) t asking (ex ∙ giving-viewed d 0 l0) (ey ∙ giving-viewed d 1 l1) (ez ∙ giving-viewed d 2 l2))
+  -- the same of a device in parts
+  pub inputs-held : (k : Core) (v : Arrays) → Sound (whole k v) → (asking : ℕ) {x y z : HeldController} → viewController x ≡ givingHeld k 0 l0 → viewController y ≡ givingHeld k 1 l1 → viewController z ≡ givingHeld k 2 l2
+      → let e = given (whole k v) (map viewController (stored3 (k .controllers) x y z)) in Answers requesting e asking e → Does (setInputs s l0 l1 l2) (whole k v) (withField KICK (gaining e asking) e)
+  inputs-held k v t asking {x} {y} {z} ex ey ez =
+      rw (stored-viewed (k .controllers) x y z) (inputs-does (whole k v) t asking (ex ∙ giving-viewed k v 0 l0) (ey ∙ giving-viewed k v 1 l1) (ez ∙ giving-viewed k v 2 l2))
+
+-- their level bytes stay
+pub inputs-keep : (k l : Core) (l0 l1 l2 : ℕ) → length (map viewController (k .controllers)) ≡ 3 → {x y z : HeldController} → viewController x ≡ givingHeld k 0 l0 → viewController y ≡ givingHeld k 1 l1
+    → viewController z ≡ givingHeld k 2 l2 → l .controllers ≡ stored3 (k .controllers) x y z → SameLevels k l
+inputs-keep k l l0 l1 l2 three {x} {y} {z} ex ey ez e =
+    same-levels k l three (viewController x) (viewController y) (viewController z) (at 0 l0 ex) (at 1 l1 ey) (at 2 l2 ez) (ap (map viewController) e ∙ stored-viewed (k .controllers) x y z)
+  where
+    at : (c lines : ℕ) {n : HeldController} → viewController n ≡ givingHeld k c lines → controller (map viewController (k .controllers)) c .levels ≡ n .levels
+    at c lines h = ap (λ (n : Controller). n .levels) (controller-viewed (k .controllers) c ∙ refl) ∙ ap (λ (n : Controller). n .levels) (sym h)

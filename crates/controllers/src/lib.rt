@@ -1,7 +1,7 @@
 // The interrupt controllers: lines, level, acknowledge; and the inputs of the device. A controller is searched and rebuilt by value, one at
-// a time; the functions on the whole device only put the three together. Quoted words are document 01's.
+// a time; the functions on a device's core only put the three together. Quoted words are document 01's.
+use act::Core;
 use rules::Controller;
-use rules::Device;
 use rules::Heard;
 ghost use mathlib.Core.Path.{_≡_};
 ghost use mathlib.Core.Bool.{cond};
@@ -9,15 +9,15 @@ ghost use Prim.Native.Nat.{_+_, _*_, _^_, _<_, max};
 ghost use lib.Dec.{eqb};
 ghost use lib.ListN.{length};
 ghost use mathlib.Core.List.{map};
-ghost use Rattle.rules.specs.View.{viewController, view};
+ghost use Rattle.rules.specs.View.{viewController};
 ghost use Rattle.rules.specs.Lines.{ownedFrom, driven, loudest, relevel, answers, loudestAbove, above, hear, acknowledge};
-ghost use Rattle.rules.specs.Calls.{setInputs, setPending};
-ghost use Rattle.rules.specs.Run.{requesting};
+ghost use Rattle.rules.specs.Calls.{setInputs};
 ghost use Rattle.rules.specs.With.{withLines};
 ghost use Rattle.rules.specs.Words.{gain};
-ghost use Rattle.act.specs.Does.{Answers, Does};
+ghost use Rattle.act.specs.Parts.{Arrays, counted, taking};
 ghost use Rattle.controllers.specs.Levels.{sourcesOf, levelIn, controllersIn, highestIn, loudIn, found, saidBy, over};
 ghost use Rattle.controllers.specs.Waiting.{waitingIn};
+ghost use Rattle.controllers.specs.Works.{Works, Answered, Hears};
 
 // ---- DMA-owned lines
 
@@ -129,15 +129,15 @@ pub fn relevelled(controllers: [Controller; 3], int: u64, ignore: bool) -> Level
 }
 
 // "Each accepted act but acknowledge ends by working out lines and level anew."
-pub fn update_irq(d: Device) -> Device
-    ensures { λ r. ⌜ Does relevel (view d) (view r) ⌝ }
+pub fn update_irq(k: Core) -> Core
+    ensures { λ r. ⌜ ((x : Arrays) → Works relevel k r x) ⌝ }
 {
-    let before = d.controllers;
-    let r = relevelled(before, d.scalars.int, d.ignore_masks);
-    let controllers = r.controllers;
-    let mut e = d;
+    let before = k.controllers;
+    let l = relevelled(before, k.scalars.int, k.ignore_masks);
+    let controllers = l.controllers;
+    let mut e = k;
     e.controllers = controllers;
-    e.scalars.level = r.level;
+    e.scalars.level = l.level;
     e
 }
 
@@ -216,42 +216,29 @@ pub fn heard_from(ipl: u8, c: usize, k: Controller, ignore: bool, below: Loud) -
     )
 }
 
-// What an acknowledge answers, and the device after it.
-pub struct Answered {
-    pub heard: Heard,
-    pub device: Device,
-}
-
 // "It answers that level and vector 64 + 64 x controller + source, whose taken count rises." Counts wrap at 2^64.
-fn hear(d: Device, loud: Loud) -> Answered
+fn hear(loud: Loud, taken: &mut [u64; 192]) -> Heard
     requires { ⌜ loud .at < 192 ⌝ }
-    ensures { λ r. ⌜ Answers (hear (found loud)) (view d) (r .heard) (view (r .device)) ⌝ }
+    ensures { λ r. ⌜ Hears (hear (found loud)) r (now (taken .entry)) (now (taken .exit)) ⌝ }
 {
     if loud.level == 0 {
-        return Answered {
-            heard: Heard::Nothing,
-            device: d,
-        };
+        return Heard::Nothing;
     }
     let at = loud.at;
-    let mut e = d;
-    e.taken[at] = std::num::wrapping_add_u64(d.taken[at], 1);
-    Answered {
-        heard: Heard::Source(loud.level, (64 + at) as u8),
-        device: e,
-    }
+    taken[at] = std::num::wrapping_add_u64(taken[at], 1);
+    Heard::Source(loud.level, (64 + at) as u8)
 }
 
 // The controllers are searched in rising order, and what is found is heard.
-pub fn ack_irq(d: Device, ipl: u8) -> Answered
-    ensures { λ r. ⌜ Answers (acknowledge ipl) (view d) (r .heard) (view (r .device)) ⌝ }
+pub fn ack_irq(k: Core, ipl: u8, taken: &mut [u64; 192]) -> Heard
+    ensures { λ r. ⌜ ((x : Arrays) → Answered (acknowledge ipl) r k (taking x (now (taken .entry))) (taking x (now (taken .exit)))) ⌝ }
 {
-    let ignore = d.ignore_masks;
+    let ignore = k.ignore_masks;
     let nothing = Loud { level: 0, at: 0 };
-    let a = heard_from(ipl, 0, d.controllers[0], ignore, nothing);
-    let b = heard_from(ipl, 1, d.controllers[1], ignore, a);
-    let c = heard_from(ipl, 2, d.controllers[2], ignore, b);
-    hear(d, c)
+    let a = heard_from(ipl, 0, k.controllers[0], ignore, nothing);
+    let b = heard_from(ipl, 1, k.controllers[1], ignore, a);
+    let c = heard_from(ipl, 2, k.controllers[2], ignore, b);
+    hear(c, taken)
 }
 
 // ---- inputs
@@ -267,7 +254,7 @@ fn waits(m: u64, count: u32, ch: usize) -> u64
     words::gain_bit(m, ch)
 }
 
-// The channels of `standing`, and those whose pending count is above 0.
+// "A channel requests if its standing bit is set or its pending count is above 0": those that do.
 pub fn waiting(standing: u64, pending: &[u32]) -> u64
     requires { ⌜ length (now pending) ≡ 64 ⌝ }
     ensures { λ r. ⌜ r ≡ waitingIn (now (pending .entry)) 64 0 standing ⌝ }
@@ -281,14 +268,6 @@ pub fn waiting(standing: u64, pending: &[u32]) -> u64
     m
 }
 
-// "A channel requests if its standing bit is set or its pending count is above 0": those that do.
-pub fn requesting(d: Device) -> u64
-    ensures { λ r. ⌜ Answers requesting (view d) r (view d) ⌝ }
-{
-    let pending = d.pending;
-    waiting(d.scalars.standing, &pending)
-}
-
 // A controller with lines that are given: "the masks replace the old ones, except DMA-owned line bits".
 fn given(lines: u64, c: usize, k: Controller) -> Controller
     ensures { λ r. ⌜ viewController r ≡ withLines (viewController k) (ownedFrom c (k .lines) lines) ⌝ }
@@ -299,27 +278,17 @@ fn given(lines: u64, c: usize, k: Controller) -> Controller
 }
 
 // "Device inputs: standing request mask and three line masks. [..] Then KICK gains every requesting channel with its ERQ bit set."
-pub fn with_inputs(d: Device, standing: u64, l0: u64, l1: u64, l2: u64) -> Device
-    ensures { λ r. ⌜ Does (setInputs standing l0 l1 l2) (view d) (view r) ⌝ }
+pub fn with_inputs(k: Core, standing: u64, l0: u64, l1: u64, l2: u64, pending: &[u32; 64]) -> Core
+    ensures { λ r. ⌜ ((x : Arrays) → Works (setInputs standing l0 l1 l2) k r (counted x (now (pending .entry)))) ⌝ }
 {
-    let x = given(l0, 0, d.controllers[0]);
-    let y = given(l1, 1, d.controllers[1]);
-    let z = given(l2, 2, d.controllers[2]);
-    let mut e = d;
+    let a = given(l0, 0, k.controllers[0]);
+    let b = given(l1, 1, k.controllers[1]);
+    let c = given(l2, 2, k.controllers[2]);
+    let mut e = k;
     e.scalars.standing = standing;
-    e.controllers[0] = x;
-    e.controllers[1] = y;
-    e.controllers[2] = z;
-    e.scalars.kick = e.scalars.kick | (requesting(e) & e.scalars.erq);
-    e
-}
-
-// "Pending: stores a 32-bit count for one channel."
-pub fn with_pending(d: Device, ch: usize, count: u32) -> Device
-    requires { ⌜ ch < 64 ⌝ }
-    ensures { λ r. ⌜ Does (setPending ch count) (view d) (view r) ⌝ }
-{
-    let mut e = d;
-    e.pending[ch] = count;
+    e.controllers[0] = a;
+    e.controllers[1] = b;
+    e.controllers[2] = c;
+    e.scalars.kick = e.scalars.kick | (waiting(standing, pending) & e.scalars.erq);
     e
 }

@@ -27,7 +27,8 @@ use Rattle.act.specs.declared.Flow.{Flow}
 use Rattle.controllers.specs.Waiting.{waitingIn}
 use Rattle.controllers.proofs.InputLaws.{requesting-answers}
 use Rattle.turns.specs.Frees.{Frees}
-use Rattle.engine.specs.Runs.{whole, Offers}
+use Rattle.act.specs.Parts.{working, whole}
+use Rattle.engine.specs.Runs.{numbered, Offers}
 
 -- ---- refusals 5, 6 and 7
 
@@ -72,20 +73,6 @@ right base window journal used time pace e =
 
 -- ---- the turns of a run
 
--- a journal's end past the journal stands for the end itself
-pub ends-within : (j : List ℕ) (at : ℕ) → (take (min at (length j)) j ≡ take at j) × (drop (min at (length j)) j ≡ drop at j)
-ends-within j at = by (leb at (length j)) refl
-  where
-    by : (b : Bool) → leb at (length j) ≡ b → (take (min at (length j)) j ≡ take at j) × (drop (min at (length j)) j ≡ drop at j)
-    by true e = let h : at ≤ length j = leb-true _ _ e in let q : min at (length j) ≡ at = omega arith in (ap (λ (n : ℕ). take n j) q, ap (λ (n : ℕ). drop n j) q)
-    by false e =
-        let h : length j < at = leb-false _ _ e in
-        let q : min at (length j) ≡ length j = omega arith in
-        (ap (λ (n : ℕ). take n j) q ∙ take-all (length j) j (omega arith) ∙ sym (take-all at j (omega arith)), ap (λ (n : ℕ). drop n j) q ∙ drop-length j ∙ sym (drop-of-length-le j {i = at} (omega arith)))
-
-pub world-within : (d : Device) (w j : List ℕ) (at n : ℕ) → n ≡ min at (length j) → worldOf d w j n ≡ worldOf d w j at
-world-within d w j at n e = rw (e, ends-within j at .0, ends-within j at .1)
-
 pub zeros : (s : List ℕ) (n : ℕ) {s′ : List ℕ} → s′ ≡ take 0 s ++ replicate (length s - 0) 0 ++ drop (length s) s → length s ≡ n → s′ ≡ replicate n 0
 zeros s n h e = let q : length s - 0 ≡ n = omega arith in h ∙ rw (q, drop-length s, append-nil)
 
@@ -116,15 +103,15 @@ module _ (time : ℕ) (d : Device) (back asking : ℕ) (b : List ℕ) (frees : F
 -- where the turns begin
 
 pub offers-run : (again : Bool) → again ≡ false → (time : ℕ) (s : Scalars) (used : ℕ) (b p : List ℕ) {r : Flow} → r ≡ record { scalars = s; at = used } → Offers again time s r b b p used
-offers-run again h time s used b p e pace base lent k ignore tb m taken w j = rw (h, e) refl
+offers-run again h time s used b p e pace base lent k ignore x tb m w j = rw (h, e) refl
 
 pub offers-service : (again : Bool) → again ≡ true → (time : ℕ) (s : Scalars) (used : ℕ) (b b′ p : List ℕ) (r : Flow) → Offers true time s r b b′ p used → Offers again time s r b b′ p used
-offers-service again h time s used b b′ p r o pace base lent k ignore tb m taken w j = rw h (o pace base lent k ignore tb m taken w j)
+offers-service again h time s used b b′ p r o pace base lent k ignore x tb m w j = rw h (o pace base lent k ignore x tb m w j)
 
 pub offers-again : (time : ℕ) (s : Scalars) (used back asking : ℕ) (b b′ p : List ℕ) → Frees time (s .erq) back b b′ → asking ≡ waitingIn p 64 0 (s .standing)
     → back < 2 ^ 64 → s .kick < 2 ^ 64 → s .deferred < 2 ^ 64
     → (n : Scalars) → viewScalars n ≡ set (set (viewScalars s) 6 0) 5 (bitOr (s .kick) (bitAnd (bitOr back (s .deferred)) (bitOr asking (s .kick))))
     → Offers true time s (record { scalars = n; at = used }) b b′ p used
-offers-again time s used back asking b b′ p frees asks hb hk hd n v pace base lent k ignore tb m taken w j =
-    let d : Device = whole s k ignore tb b m p taken in
+offers-again time s used back asking b b′ p frees asks hb hk hd n v pace base lent k ignore x tb m w j =
+    let d : Device = whole (numbered s k ignore) (working x tb b m p) in
     rw v (offered-again time d back asking b′ frees (requesting-answers (withBusy d b′) asks) hb hk hd refl pace base lent w (take used j) (drop used j))

@@ -6,11 +6,12 @@ use Prim.Native.Nat.{ℕ, zero, suc, _<_}
 use native.Mathlib.Omega.{arith}
 use lib.Dec.{lit<}
 use lib.ListN.{length, replicate}
-use Rattle.rules.specs.Calls.{Asked, run, service, Told, told, refusalNumber, verdictNumber, levelled, actOf, wrong, stagingAfter, worldOf, toldAfter, after}
+use Rattle.rules.specs.Calls.{Asked, run, service, Told, told, toldActed, refusalNumber, verdictNumber, levelled, actOf, wrong, stagingAfter, worldOf, toldAfter, after}
 use Rattle.rules.specs.Carry.{perform, lending}
 use Rattle.rules.specs.Run.{runAll, serviceAll}
 use Rattle.rules.specs.State.{Device}
 use Rattle.rules.specs.View.{view}
+use Rattle.rules.specs.declared.Acted.{Acted}
 use Rattle.rules.specs.declared.Device.{Device as HeldDevice}
 use Rattle.rules.specs.declared.Heard.the-variants as Heard
 use Rattle.rules.specs.declared.Refusal.{Refusal}
@@ -18,8 +19,10 @@ use Rattle.rules.specs.declared.Refusal.the-variants as Refusal
 use Rattle.rules.specs.declared.Verdict.{Verdict}
 use Rattle.rules.specs.declared.Verdict.the-variants as Verdict
 use Rattle.rules.proofs.CallLaws.{act-wrong}
-use Rattle.rules.proofs.Typed.{Typed, sound, table-size}
-use Rattle.engine.specs.Runs.{whole, Fine, stepsOf, standing, asked}
+use Rattle.act.specs.Parts.{Arrays, whole, held, coreOf, arraysOf, toldDone}
+use Rattle.act.specs.declared.Core.{Core}
+use Rattle.act.specs.declared.Done.{Done}
+use Rattle.engine.specs.Runs.{stepsOf, asked}
 
 -- a refusal's number is not 0
 numbered : (n : Refusal) → 0 < refusalNumber n
@@ -45,34 +48,11 @@ pub asked-wrong : (base window journal used time pace : ℕ) (again : Bool) → 
 asked-wrong base window journal used time pace true = service-wrong base window journal used time pace
 asked-wrong base window journal used time pace false = refl
 
--- after a refusal the device is the one given
-pub told-kept : (v : Verdict) {n : Refusal} → v ≡ Verdict.Refused n → (x y : Device) {w s j : List ℕ} {u : ℕ} {z : Told}
-    → told (verdictNumber v) Heard.Nothing (standing v x y) w s j u ≡ z → told (verdictNumber v) Heard.Nothing x w s j u ≡ z
-unfolding standing
-told-kept v e x y {w} {s} {j} {u} h = ap (λ (d : Device). told (verdictNumber v) Heard.Nothing d w s j u) (sym (kept e)) ∙ h
-  where
-    kept : {n : Refusal} → v ≡ Verdict.Refused n → standing v x y ≡ x
-    kept e = rw e refl
-
-pub told-moved : (v : Verdict) → v ≡ Verdict.Accepted → (x y : Device) {w s j : List ℕ} {u : ℕ} {z : Told}
-    → told (verdictNumber v) Heard.Nothing (standing v x y) w s j u ≡ z → told (verdictNumber v) Heard.Nothing y w s j u ≡ z
-unfolding standing
-told-moved v e x y {w} {s} {j} {u} h = ap (λ (d : Device). told (verdictNumber v) Heard.Nothing d w s j u) (sym moved) ∙ h
-  where
-    moved : standing v x y ≡ y
-    moved = rw e refl
-
--- a device, and its parts
-abbrev pub partsAs : HeldDevice → Device
-partsAs d = whole (d .scalars) (d .controllers) (d .«ignore_masks») (d .table) (d .busy) (d .majors) (d .pending) (d .taken)
-
-pub fine-parts : (d : HeldDevice) → Typed d → Fine (partsAs d)
-fine-parts d g = (sound d g, omega (arith, table-size d g))
-
-pub whole-told : (call : Asked) (base : ℕ) (d : HeldDevice) (w s j : List ℕ) (used : ℕ) (n u : ℕ) (x e : HeldDevice) (w′ s′ j′ : List ℕ) → e ≡ x
-    → told n Heard.Nothing (view x) w′ s′ j′ u ≡ after call base (partsAs d) w s j used
-    → told n Heard.Nothing (view e) w′ s′ j′ u ≡ after call base (view d) w s j used
-whole-told call base d w s j used n u x e w′ s′ j′ q h = rw q h
+-- a device by value, from its parts
+pub whole-told : (call : Asked) (base : ℕ) (d : HeldDevice) (y : Arrays) (w s j w′ s′ j′ : List ℕ) (used : ℕ) (k : Core) (r : Done) {a : Acted} → k ≡ coreOf d
+    → toldDone Heard.Nothing r y w′ s′ j′ ≡ after call base (whole k (arraysOf d)) w s j used
+    → a ≡ record { verdict = r .verdict; used = r .used; device = held (r .core) y } → toldActed a w′ s′ j′ ≡ after call base (view d) w s j used
+whole-told call base d y w s j w′ s′ j′ used k r e f g = rw g (rw e at f)
 
 module _ (base : ℕ) (d : Device) (w s j : List ℕ) (used : ℕ) where
   told-wrong : (c : Asked) (x : ℕ) → 0 < x → wrong base (length w) (length j) used c ≡ x → told x Heard.Nothing d w s j used ≡ after c base d w s j used

@@ -1,51 +1,82 @@
 -- How a call ends whose turns came to a world: rolled back where it is refused, and closed where it is not. Assumes nothing.
 use mathlib.Core.Bool.{Bool}
-use mathlib.Core.List.{List, [], _∷_, map}
+use mathlib.Core.List.{List, [], _∷_}
 use mathlib.Core.Path.{_≡_, refl, sym, ap, _∙_, subst}
-use Prim.Native.Nat.{ℕ, _+_, _^_, _≤_, min}
+use Prim.Native.Nat.{ℕ, _+_, _^_, _≤_}
 use native.Mathlib.Omega.{arith}
-use lib.ListN.{length, set, take, drop, replicate, length-append, length-take, take-append-drop}
+use lib.ListN.{length, replicate, take, drop, length-append, take-append-drop}
 use lib.Seq.{length-take-le}
 use Rattle.rules.specs.Act.{Act, window, table}
 use Rattle.rules.specs.Bytes.{Bytes}
-use Rattle.rules.specs.Calls.{Told, told, refusalNumber, verdictNumber, levelled, worldOf, toldAfter}
-use Rattle.rules.specs.Carry.{Machine, World, Rec, stoodAt, stoodIn, ok, no, there, go, unmade, cleared, leave, perform, Lent, lending}
+use Rattle.rules.specs.Calls.{told, refusalNumber, levelled, worldOf, toldAfter}
+use Rattle.rules.specs.Carry.{Machine, World, Out, Rec, stoodAt, stoodIn, there, changed, go, unmade, cleared, perform, Lent, lending}
 use Rattle.rules.specs.Fields.{fieldsOf}
-use Rattle.rules.specs.Lines.{relevel}
-use Rattle.rules.specs.Scalars.{viewScalars}
+use Rattle.rules.specs.Run.{runAll}
 use Rattle.rules.specs.TakeBack.{soundStore}
 use Rattle.rules.specs.State.{Device}
-use Rattle.rules.specs.View.{viewController}
-use Rattle.rules.specs.declared.Controller.{Controller as HeldController}
 use Rattle.rules.specs.declared.Heard.{Heard}
 use Rattle.rules.specs.declared.Heard.the-variants as Heard
 use Rattle.rules.specs.declared.Refusal.{Refusal}
-use Rattle.rules.specs.declared.Scalars.{Scalars}
 use Rattle.rules.specs.declared.Verdict.{Verdict}
 use Rattle.rules.specs.declared.Verdict.the-variants as Verdict
 use Rattle.rules.proofs.Back.{AllSound}
+use Rattle.rules.proofs.Each.{Proper}
 use Rattle.rules.proofs.Keeps.{AtEnd, Good}
-use Rattle.rules.proofs.Steps.{then-ok, then-no, go-done, leave-refused}
 use Rattle.rules.proofs.Took.{Underway, go-underway}
 use Rattle.rules.proofs.Undo.{asIn}
-use Rattle.act.specs.Does.{Answers, Does}
-use Rattle.act.specs.Worlds.{over, told as step-told}
+use Rattle.act.specs.Parts.{Arrays, working, whole, toldDone}
+use Rattle.act.specs.Worlds.{over, world, told as step-told, flowOf, walkOf}
+use Rattle.act.specs.declared.Core.{Core}
+use Rattle.act.specs.declared.Done.{Done}
 use Rattle.act.specs.declared.Flow.{Flow}
 use Rattle.act.specs.declared.Step.{Step}
+use Rattle.act.specs.declared.Step.the-variants.{Going, Refused}
+use Rattle.act.specs.declared.Walk.{Walk}
+use Rattle.act.specs.declared.Walk.the-variants.{On, Off}
 use Rattle.journal.specs.Undoing.{RolledBack}
-use Rattle.journal.proofs.Back.{MemorySound, rolls, rolled-window, rolled-journal}
-use Rattle.closing.specs.Closes.{SameLevels, closed, Closes, fieldsIn}
+use Rattle.journal.proofs.Back.{MemorySound, rolled-window, rolled-journal}
+use Rattle.closing.specs.Closes.{noting, addAll, addEnd, Notes, Part, coreIn}
 use Rattle.closing.specs.declared.Noted.{Noted}
-use Rattle.closing.specs.declared.Noted.the-variants.{At, Full}
-use Rattle.closing.proofs.Group.{closes}
-use Rattle.closing.proofs.Parts.{fields-in}
-use Rattle.controllers.specs.Levels.{controllersIn, highestIn}
-use Rattle.controllers.specs.declared.Levelled.{Levelled}
-use Rattle.controllers.proofs.DeviceLaws.{relevel-does}
-use Rattle.turns.specs.Turns.{around}
-use Rattle.engine.specs.Runs.{came, stepOf, whole, RunsAll, SameSteps, Fine, standing, held}
-use Rattle.engine.proofs.Beginning.{world-within}
-use Rattle.engine.proofs.Sparing.{highest-below, same-levels}
+use Rattle.closing.proofs.Parts.{same, same-part, all-noted}
+use Rattle.acting.specs.Ending.{Settled, Settles, Since, begunAt, endAt, doneBy, refusedBy, standing}
+use Rattle.acting.specs.declared.Reached.{Reached}
+use Rattle.acting.proofs.Laws.{since-then, front-then, told-made, told-unmade, core-kept, stands-new, stands-old}
+use Rattle.turns.specs.Turns.{turning}
+use Rattle.engine.specs.Runs.{RunsAll, Offers, stepsOf, Ended, EndsTurns}
+
+-- ---- the last records of an act of turns
+
+ends-where : (s₀ : Step) {q : Walk} → q ≡ walkOf s₀ → endAt q ≡ flowOf s₀ .at
+ends-where (Going c) e = ap endAt e
+ends-where (Refused r c) e = ap endAt e
+
+module _ (k : Core) (s : Reached) (x : Arrays) (tb tb′ b b′ m m′ p p′ : List ℕ) (used : ℕ) (j : List ℕ) {n₀ t₁ t₂ t₃ t₄ n : Noted} {j₁ j₂ j₃ j₄ j₅ : List ℕ}
+    (begins : n₀ ≡ begunAt (s .walk)) (core : Notes 0 (coreIn k) (coreIn (s .core)) n₀ t₁ j j₁) (times : Part 64 64 b b′ t₁ t₂ j₁ j₂) (counts : Part 64 128 m m′ t₂ t₃ j₂ j₃)
+    (waits : Part 64 192 p p′ t₃ t₄ j₃ j₄) (end : noting n j₅ ≡ addEnd used (noting t₄ j₄)) (r : Done) (is : r ≡ doneBy k s n used)
+    (s₀ : Step) (base : ℕ) (lent : Lent) (act : Act (Unit {0})) (w j₀ w′ : List ℕ) (proper : Proper (whole k (working x tb b m p))) (fits : used ≤ length j₀)
+    (went : Settled k (working x tb′ b′ m′ p′) s₀ s base lent act (whole k (working x tb b m p)) w j₀ w′ j used)
+  where
+    abbrev before : Arrays
+    before = working x tb b m p
+
+    abbrev after : Arrays
+    after = working x tb′ b′ m′ p′
+
+    noted : noting n j₅ ≡ addEnd used (addAll (changed 0 (fieldsOf (whole k before)) (fieldsOf (whole (s .core) after))) (noting (begunAt (s .walk)) j))
+    noted =
+        end
+        ∙ ap (addEnd used)
+        (all-noted k (s .core) before after n₀ j core times counts waits (same-part k (s .core) before proper (went .levels) t₄ j₄) (same 576 (x .taken) t₄ j₄)
+        ∙ ap (λ (z : Noted). addAll (changed 0 (fieldsOf (whole k before)) (fieldsOf (whole (s .core) after))) (noting z j)) begins)
+
+    pub turns-ended : Ended k before after s₀ r base lent act w j₀ w′ j j₅ used
+    turns-ended = record {
+      told-made = λ z v. told-made k before after Heard.Nothing used w j₀ w′ j j₅ fits (went .since) base lent (levelled act) s n (went .later) (went .left) noted r is z v;
+      told-unmade = λ why v. told-unmade k before after Heard.Nothing used w j₀ w′ j j₅ fits (went .since) base lent (levelled act) s n (went .later) (went .left) noted r is v;
+      core-kept = λ why v. core-kept k before after Heard.Nothing used w j₀ w′ j j₅ fits (went .since) base lent (levelled act) s n (went .later) (went .left) noted r is v;
+      front = subst (λ (at : ℕ). take at j₅ ≡ take at j) (ends-where s₀ (went .ends)) (front-then k before after Heard.Nothing used w j₀ w′ j j₅ fits (went .since) base lent (levelled act) s n (went .later) (went .left) noted);
+      long = sym (since-then k before after Heard.Nothing used w j₀ w′ j j₅ fits (went .since) base lent (levelled act) s n (went .later) (went .left) noted .long) ∙ went .since .long;
+    }
 
 -- ---- records that are sound where an act began are sound in a window as long
 
@@ -56,156 +87,82 @@ memory-sound base m m′ alike (stoodAt window a w v ∷ rs) s = (rw alike (s .0
 memory-sound base m m′ alike (stoodAt table a w v ∷ rs) s = memory-sound base m m′ alike rs (s .1)
 memory-sound base m m′ alike (stoodIn n v ∷ rs) s = memory-sound base m m′ alike rs (s .1)
 
-at-world : (P : World → Type 0) (v : Verdict) (u : World) → AtEnd P (came v u) → P u
-unfolding came
-at-world P Verdict.Accepted u h = h
-at-world P (Verdict.Refused n) u h = h
+-- where a step came to
+at-step : (P : World → Type 0) (s : Step) (d : Device) (w j t m : List ℕ) → AtEnd P (step-told s d w j t m) → P (world d (flowOf s) w j t m)
+unfolding step-told
+at-step P (Going c) d w j t m h = h
+at-step P (Refused r c) d w j t m h = h
 
--- ---- an act that began with `before`, w, j and came to e, w′, j′
+-- ---- an act that began with d, w, j and came to s, w′, j′: rolled back
 
-module _ (base : ℕ) (lent : Lent) (before : Device) (w j : List ℕ) (used : ℕ) (good : Good base (record { mem = w; dev = before })) (fits : used ≤ length j)
-    (m : Act (Unit {0})) (v : Verdict) (e : Device) (w′ j′ : List ℕ) (at : ℕ)
-    (steps : came v (worldOf e w′ j′ at) ≡ go base lent m (worldOf before w j used))
+module _ (base : ℕ) (lent : Lent) (act : Act (Unit {0})) (d : Device) (w j : List ℕ) (used : ℕ) (proper : Proper d) (bytes : Bytes w) (below : base + length w ≤ 2 ^ 32) (fits : used ≤ length j)
+    (s : Step) (d′ : Device) (w′ j′ tb m : List ℕ) (goes : step-told s d′ w′ j′ tb m ≡ go base lent act (worldOf d w j used))
   where
     abbrev u : World
-    u = worldOf before w j used
+    u = worldOf d w j used
 
-    pub way : Underway base u (worldOf e w′ j′ at)
-    way = at-world (Underway base u) v (worldOf e w′ j′ at) (subst (AtEnd (Underway base u)) (sym steps) (go-underway base u good lent m))
+    abbrev at : ℕ
+    at = flowOf s .at
+
+    good : Good base (record { mem = w; dev = d })
+    good = record { sound-dev = proper .sound; mem-bytes = bytes; mem-below = below; table-below = omega (arith, proper .size) }
+
+    way : Underway base u (world d′ (flowOf s) w′ j′ tb m)
+    way = at-step (Underway base u) s d′ w′ j′ tb m (subst (AtEnd (Underway base u)) (sym goes) (go-underway base u good lent act))
 
     begun : length (take used j) ≡ used
     begun = length-take-le used j fits
 
-    pub long : length j′ ≡ length j
+    long : length j′ ≡ length j
     long =
         sym (ap length (take-append-drop at j′)) ∙ length-append (take at j′) (drop at j′) ∙ way .total-is ∙ sym (length-append (take used j) (drop used j)) ∙ ap length (take-append-drop used j)
 
     -- the journal may have grown since, past `at`
     module _ (j₂ : List ℕ) (front : take at j₂ ≡ take at j′) (same : length j₂ ≡ length j′) where
-      pub can-roll : (used ≤ at) × (used ≤ length j₂)
-      can-roll = rolls j₂ (take used j) (way .log) used at (front ∙ way .used-is) begun
-
       module _ (w″ j″ : List ℕ) (back : RolledBack base used at w′ j₂ w″ j″) where
         window-back : w″ ≡ w
         window-back =
             back .window-is
-            ∙ rolled-window j₂ (take used j) (way .log) used at (front ∙ way .used-is) begun base (asIn before (record { mem = w′; dev = e })) (way .good .mem-below)
-            (memory-sound base (u .now) (asIn before (record { mem = w′; dev = e })) (way .alike .mem-is) (way .log) (way .all-sound))
+            ∙ rolled-window j₂ (take used j) (way .log) used at (front ∙ way .used-is) begun base (asIn d (world d′ (flowOf s) w′ j′ tb m .now)) (way .good .mem-below)
+            (memory-sound base (u .now) (asIn d (world d′ (flowOf s) w′ j′ tb m .now)) (way .alike .mem-is) (way .log) (way .all-sound))
             ∙ ap (λ (x : Machine). x .mem) (way .undone)
 
-        told-back : (z : List ℕ) (n : ℕ) → perform base lent (levelled m) u ≡ unmade n (cleared u)
-            → told n Heard.Nothing before w″ z j″ used ≡ toldAfter z used (perform base lent (levelled m) u)
+        pub told-back : (z : List ℕ) (n : ℕ) → perform base lent (levelled act) u ≡ unmade n (cleared u)
+            → told n Heard.Nothing d w″ z j″ used ≡ toldAfter z used (perform base lent (levelled act) u)
         unfolding toldAfter cleared
         told-back z n p =
-            rw (p, window-back, rolled-journal j₂ (take used j) (way .log) used at (front ∙ way .used-is) begun before w j refl (same ∙ long) (back .journal-is))
+            rw (p, window-back, rolled-journal j₂ (take used j) (way .log) used at (front ∙ way .used-is) begun d w j refl (same ∙ long) (back .journal-is))
 
-    -- refused at a step
-    unmade-so : (n : Refusal) → v ≡ Verdict.Refused n → perform base lent (levelled m) u ≡ unmade (refusalNumber n) (cleared u)
-    unfolding perform levelled came
-    unmade-so n h =
-        let x : World = worldOf e w′ j′ at in
-        let at-no : go base lent m u ≡ no (refusalNumber n) x = sym (rw h at steps) in
-        ap (leave u) (then-no base lent m _ u at-no) ∙ leave-refused u x (refusalNumber n)
+-- ---- a run's
 
-    -- not refused: lines and level are worked out anew
-    module _ (h : v ≡ Verdict.Accepted) (e₂ : Device) (relevelled : Does relevel e e₂) where
-      went : go base lent (levelled m) u ≡ ok Heard.Nothing (worldOf e₂ w′ j′ at)
-      unfolding levelled Answers came
-      went =
-          let x : World = worldOf e w′ j′ at in
-          let at-ok : go base lent m u ≡ ok tt x = sym (rw h at steps) in
-          then-ok base lent m _ u at-ok ∙ then-ok base lent relevel _ x (relevelled base lent w′ (take at j′) (drop at j′)) ∙ go-done base lent Heard.Nothing (worldOf e₂ w′ j′ at)
-
-      module _ (r : Noted) (j₂ : List ℕ) (closing : Closes r (fieldsOf before) (fieldsOf e₂) used at j′ j₂) where
-        ended : perform base lent (levelled m) u ≡ closed r Heard.Nothing u e₂ w′ j₂
-        unfolding perform
-        ended = ap (leave u) went ∙ sym (closes closing Heard.Nothing u e₂ w′ refl refl begun)
-
-        full-so : r ≡ Full → perform base lent (levelled m) u ≡ unmade 11 (cleared u)
-        unfolding closed
-        full-so f = ended ∙ rw f
-
-        told-made : (z : List ℕ) (end n : ℕ) → r ≡ At end → n ≡ min end (length j₂)
-            → told 0 Heard.Nothing e₂ w′ z j₂ n ≡ toldAfter z used (perform base lent (levelled m) u)
-        unfolding closed toldAfter
-        told-made z end n f q = rw (ended, f, toldAfter, take-append-drop end j₂, length-take end j₂, q)
-
-        -- the last records do not fit
-        pub ends-full : r ≡ Full → (w″ j″ : List ℕ) → RolledBack base used at w′ j₂ w″ j″ → (z z₀ : List ℕ) → z ≡ z₀
-            → told 11 Heard.Nothing before w″ z j″ used ≡ toldAfter z₀ used (perform base lent (levelled m) u)
-        ends-full f w″ j″ back z z₀ q = rw q (told-back j₂ (closing .front) (closing .long) w″ j″ back z₀ 11 (full-so f))
-
-        pub ends-made : (z z₀ : List ℕ) → z ≡ z₀ → (end n : ℕ) → r ≡ At end → n ≡ min end (length j₂)
-            → told 0 Heard.Nothing e₂ w′ z j₂ n ≡ toldAfter z₀ used (perform base lent (levelled m) u)
-        ends-made z z₀ p end n f q = rw p (told-made z₀ end n f q)
-
-    pub ends-refused : (n : Refusal) → v ≡ Verdict.Refused n → (w″ j″ : List ℕ) → RolledBack base used at w′ j′ w″ j″ → (z z₀ : List ℕ) → z ≡ z₀
-        → told (verdictNumber v) Heard.Nothing before w″ z j″ used ≡ toldAfter z₀ used (perform base lent (levelled m) u)
-    ends-refused n h w″ j″ back z z₀ q = rw (q, ap verdictNumber h) (told-back j′ refl refl w″ j″ back z₀ (refusalNumber n) (unmade-so n h))
-
--- ---- an act on a device in parts: `bef`, kb and tb, b, m, p at entry; its turns began with b₁, m₁, p₁ and came to c and tb′, b′, m′, p′
-
-told-came : (v : Verdict) (c : Flow) (d : Device) (w j tb m : List ℕ) → step-told (stepOf v c) d w j tb m ≡ came v (worldOf (over d c tb m) w j (c .at))
-unfolding step-told came
-told-came Verdict.Accepted c d w j tb m = refl
-told-came (Verdict.Refused n) c d w j tb m = refl
-
-module _ (time pace base : ℕ) (bef : Scalars) (kb : List HeldController) (ignore : Bool) (t : Flow) (w s j tb b b₁ m m₁ p p₁ : List ℕ) (used : ℕ) (r : Step) (w′ s′ j′ tb′ b′ m′ p′ : List ℕ)
-    (ran : RunsAll time pace base t r w w′ s s′ j j′ tb tb′ b₁ b′ m₁ m′ p₁ p′)
-    (bytes : Bytes w) (below : base + length w ≤ 2 ^ 32) (fits : used ≤ length j)
-    (taken : List ℕ) (fine : Fine (whole bef kb ignore tb b m p taken)) (act : Act (Unit {0})) (same : SameSteps act time pace base (whole bef kb ignore tb b m p taken) t w s j b₁ m₁ p₁ used)
-    (v : Verdict) (c : Flow) (so : r ≡ stepOf v c) (at : ℕ) (at-is : at ≡ min (c .at) (length j′))
+module _ (again : Bool) (time pace base : ℕ) (k : Core) (x : Arrays) (w s j tb b m p : List ℕ) (used : ℕ) (t : Flow) (b₁ : List ℕ) (offers : Offers again time (k .scalars) t b b₁ p used)
+    (r : Step) (w′ s′ j′ tb′ b′ m′ p′ : List ℕ) (ran : RunsAll time pace base t r w w′ s s′ j j′ tb tb′ b₁ b′ m m′ p p′)
+    (proper : Proper (whole k (working x tb b m p))) (bytes : Bytes w) (below : base + length w ≤ 2 ^ 32) (fits : used ≤ length j)
+    (e : Reached) (settles : Settles k r e) (q : Done) (j₂ : List ℕ) {b₀ m₀ p₀ : List ℕ} (closes : EndsTurns k e used q b₀ b′ m₀ m′ p₀ p′ j′ j₂) (same-b : b₀ ≡ b) (same-m : m₀ ≡ m) (same-p : p₀ ≡ p)
   where
-    abbrev d : Device
-    d = whole bef kb ignore tb b m p taken
+    abbrev lends : Lent
+    lends = lending (length s)
 
-    abbrev e : Device
-    e = over (around d b′ p′) c tb′ m′
+    abbrev old : Arrays
+    old = working x tb b m p
 
-    abbrev ends : Told
-    ends = toldAfter (replicate (length s) 0) used (perform base (lending (length s)) (levelled act) (worldOf d w j used))
+    abbrev new : Arrays
+    new = working x tb′ b′ m′ p′
 
-    good : Good base (record { mem = w; dev = d })
-    good = record { sound-dev = fine .0; mem-bytes = bytes; mem-below = below; table-below = fine .1 }
+    goes : step-told r (whole k new) w′ j′ tb′ m′ ≡ go base lends (stepsOf again time pace) (worldOf (whole k old) w j used)
+    goes = ran .does (whole k new) ∙ sym (offers pace base lends (k .controllers) (k .«ignore_masks») x tb m w j)
 
-    steps : came v (worldOf e w′ j′ at) ≡ go base (lending (length s)) act (worldOf d w j used)
-    steps = ap (came v) (world-within e w′ j′ (c .at) at at-is) ∙ sym (told-came v c (around d b′ p′) w′ j′ tb′ m′) ∙ (rw so at (ran .does d)) ∙ sym same
+    ended : Ended k old new r q base lends (stepsOf again time pace) w j w′ j′ j₂ used
+    ended = (rw (same-b, same-m, same-p) at closes) x tb tb′ r base lends (stepsOf again time pace) w j w′ proper fits (settles new base lends (stepsOf again time pace) (whole k old) w j w′ j′ used proper fits goes)
 
-    pub rolls-first : (used ≤ at) × (used ≤ length j′)
-    rolls-first = can-roll base (lending (length s)) d w j used good fits act v e w′ j′ at steps j′ refl refl
+    pub carried-made : q .verdict ≡ Verdict.Accepted
+        → toldDone Heard.Nothing q (standing (q .verdict) old new) w′ s′ j₂ ≡ toldAfter (replicate (length s) 0) used (perform base lends (levelled (stepsOf again time pace)) (worldOf (whole k old) w j used))
+    carried-made v = rw (ran .cleared-staging) (stands-new q old new Heard.Nothing w′ (replicate (length s) 0) j₂ v (ended .told-made (replicate (length s) 0) v))
 
-    pub told-refused : (n : Refusal) → v ≡ Verdict.Refused n → (w″ j″ : List ℕ) → RolledBack base used at w′ j′ w″ j″ → (x : Device)
-        → told (verdictNumber v) Heard.Nothing (standing v d x) w″ s′ j″ used ≡ ends
-    unfolding standing
-    told-refused n h w″ j″ back x =
-        rw (h, standing) (rw h at (ends-refused base (lending (length s)) d w j used good fits act v e w′ j′ at steps n h w″ j″ back s′ _ (ran .cleared-staging)))
-
-    module _ (l : Levelled) (lines : map viewController (l .controllers) ≡ controllersIn (c .scalars .int) (map viewController kb))
-        (level : l .level ≡ highestIn ignore (c .scalars .int) (map viewController kb))
-        (after : Scalars) (put : viewScalars after ≡ set (viewScalars (c .scalars)) 8 (l .level))
-      where
-        pub can-end : (used ≤ at) × (at ≤ length j′) × SameLevels kb (l .controllers)
-        can-end = (rolls-first .0, omega arith, same-levels (c .scalars .int) kb (l .controllers) (fine .0 .three) lines)
-
-        abbrev e₂ : Device
-        e₂ = whole after (l .controllers) ignore tb′ b′ m′ p′ taken
-
-        relevelled : Does relevel e e₂
-        relevelled =
-            rw put (relevel-does e (way base (lending (length s)) d w j used good fits act v e w′ j′ at steps .good .sound-dev) lines level (highest-below ignore (c .scalars .int) (map viewController kb) level))
-
-        module _ (n : Noted) (j₂ : List ℕ) (closing : (taken : List ℕ) → Closes n (fieldsIn bef kb b m p taken) (fieldsIn after (l .controllers) b′ m′ p′ taken) used at j′ j₂) where
-          closed-whole : Closes n (fieldsOf d) (fieldsOf e₂) used at j′ j₂
-          closed-whole = rw (fields-in (held bef kb ignore tb b m p taken), fields-in (held after (l .controllers) ignore tb′ b′ m′ p′ taken)) (closing taken)
-
-          pub rolls-last : (used ≤ at) × (used ≤ length j₂)
-          rolls-last = can-roll base (lending (length s)) d w j used good fits act v e w′ j′ at steps j₂ (closing taken .front) (closing taken .long)
-
-          module _ (h : v ≡ Verdict.Accepted) where
-            pub told-full : n ≡ Full → (w″ j″ : List ℕ) → RolledBack base used at w′ j₂ w″ j″ → told 11 Heard.Nothing d w″ s′ j″ used ≡ ends
-            told-full f w″ j″ back =
-                ends-full base (lending (length s)) d w j used good fits act v e w′ j′ at steps h e₂ relevelled n j₂ closed-whole f w″ j″ back s′ _ (ran .cleared-staging)
-
-            pub told-made-so : (end u : ℕ) → n ≡ At end → u ≡ min end (length j₂) → told 0 Heard.Nothing e₂ w′ s′ j₂ u ≡ ends
-            told-made-so end u f q =
-                ends-made base (lending (length s)) d w j used good fits act v e w′ j′ at steps h e₂ relevelled n j₂ closed-whole s′ _ (ran .cleared-staging) end u f q
+    pub carried-unmade : {why : Refusal} → q .verdict ≡ Verdict.Refused why → (w″ j″ : List ℕ) {at : ℕ} → at ≡ flowOf r .at → RolledBack base used at w′ j₂ w″ j″
+        → toldDone Heard.Nothing q (standing (q .verdict) old new) w″ s′ j″ ≡ toldAfter (replicate (length s) 0) used (perform base lends (levelled (stepsOf again time pace)) (worldOf (whole k old) w j used))
+    carried-unmade {why} v w″ j″ is back =
+        rw (ran .cleared-staging)
+        (stands-old q old new Heard.Nothing w″ (replicate (length s) 0) j″ v
+        (ap (λ (z : Done). toldDone Heard.Nothing z old w″ (replicate (length s) 0) j″) (ended .core-kept why v)
+        ∙ told-back base lends (stepsOf again time pace) (whole k old) w j used proper bytes below fits r (whole k new) w′ j′ tb′ m′ goes j₂ (ended .front) (ended .long) w″ j″ (rw is at back) (replicate (length s) 0) (refusalNumber why) (ended .told-unmade why v)))

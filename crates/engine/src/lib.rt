@@ -1,12 +1,13 @@
 // The public calls run and service: document 01, "The calls" and "Run, service, controllers".
-// Their contracts fix all that is there after a call, for all inputs (crate `rules`, specs/Calls.antt, `after`). A call takes the device apart
-// once, into local arrays, which the turns are lent, and its numbers; all is done on these parts, and the device is put together once. (Copies of
-// the device are what a short run would spend most of its time on.)
+// Their contracts fix all that is there after a call, for all inputs (crate `rules`, specs/Calls.antt, `after`). All is done on a device in parts: its
+// core by value, and its arrays lent (`run_in`). A call on a device by value takes it apart once and puts it together once. (Copies of the device are
+// what a short run would spend most of its time on.)
+use act::Core;
+use act::Done;
 use act::Flow;
 use act::Step;
-use closing::Noted;
+use acting::Reached;
 use rules::Acted;
-use rules::Controller;
 use rules::Device;
 use rules::Refusal;
 use rules::Scalars;
@@ -17,7 +18,8 @@ ghost use Prim.Native.Nat.{_+_, _^_, _≤_};
 ghost use lib.ListN.{length};
 ghost use Rattle.rules.specs.View.{view};
 ghost use Rattle.rules.specs.Calls.{verdictNumber, wrong, run as runCall, service as serviceCall, toldActed, after};
-ghost use Rattle.engine.specs.Runs.{held, RunsAll, Offers, Reaches, Carries, Sounds, Runs};
+ghost use Rattle.act.specs.Parts.{Arrays};
+ghost use Rattle.engine.specs.Runs.{RunsAll, Offers, EndsTurns, Carries, Runs, asked};
 
 // Refusals 5, 6 and 7, in that order.
 fn tested(time: u64, pace: u64, base: u32, window: usize, journal: usize, used: usize) -> Verdict
@@ -33,33 +35,6 @@ fn tested(time: u64, pace: u64, base: u32, window: usize, journal: usize, used: 
         return Verdict::Refused(Refusal::Time);
     }
     Verdict::Accepted
-}
-
-// ---- a device in parts
-
-// A device of these parts; taken counts and the ignore setting are those of `d`.
-fn put_together(
-    d: Device,
-    scalars: Scalars,
-    controllers: [Controller; 3],
-    table: [u8; 2048],
-    busy: [u64; 64],
-    majors: [u64; 64],
-    pending: [u32; 64],
-) -> Device
-    ensures { λ r. ⌜ r ≡ held scalars controllers (d .«ignore_masks») table busy majors pending (d .taken) ⌝ }
-{
-    let taken = d.taken;
-    Device {
-        scalars,
-        table,
-        busy,
-        majors,
-        taken,
-        pending,
-        controllers,
-        ignore_masks: d.ignore_masks,
-    }
 }
 
 // ---- the turns of a run
@@ -143,21 +118,35 @@ fn offered(
 
 // ---- a call
 
-// What a call came to besides arrays.
-pub struct Done {
-    pub verdict: Verdict,
-    pub used: usize,
-    pub scalars: Scalars,
-    pub controllers: [Controller; 3],
+// The last records of an act of turns, and what it answers: busy times, majors and pending counts are compared with those at entry.
+fn end_turns(
+    k: Core,
+    s: Reached,
+    busy: &[u64; 64],
+    busy_now: &[u64; 64],
+    majors: &[u64; 64],
+    majors_now: &[u64; 64],
+    pending: &[u32; 64],
+    pending_now: &[u32; 64],
+    journal: &mut [u8],
+    used: usize,
+) -> Done
+    ensures { λ r. ⌜ EndsTurns k s used r (now (busy .entry)) (now («busy_now» .entry)) (now (majors .entry)) (now («majors_now» .entry)) (now (pending .entry)) (now («pending_now» .entry)) (now (journal .entry)) (now (journal .exit)) ⌝ }
+{
+    let core = s.core;
+    let walk = s.walk;
+    let numbers = closing::note_core(acting::begun(walk), k, core, journal);
+    let times = closing::note_channels(numbers, busy, busy_now, 64, journal);
+    let counts = closing::note_channels(times, majors, majors_now, 128, journal);
+    let waits = closing::note_pending(counts, pending, pending_now, journal);
+    acting::done(k, s, closing::note_end(waits, used, journal), used)
 }
 
 // The turns, then "lines and level anew" and the end of the act. 9, 10 or 11 "leaves window, device and used journal as at entry", and "journal
 // bytes past the used length: zero to the end"; but the arrays are left to the caller. `busy`, `majors` and `pending` are those at entry.
 fn carried(
-    before: Scalars,
-    controllers: [Controller; 3],
-    ignore: bool,
-    t: Flow,
+    again: bool,
+    k: Core,
     time: u64,
     pace: u64,
     base: u32,
@@ -173,9 +162,11 @@ fn carried(
     journal: &mut [u8],
     used: usize,
 ) -> Done
-    requires { ⌜ (time ≤ 2 ^ 62) × (pace ≤ 1000000) × (used ≤ length (now journal)) × (base + length (now window) ≤ 2 ^ 32) × Reaches time pace base before controllers ignore t (now window) (now staging) (now journal) (now table) (now busy) (now «busy_now») (now majors) (now «majors_now») (now pending) (now «pending_now») used ⌝ }
-    ensures { λ r. ⌜ Carries time pace base before controllers ignore t r (now (window .entry)) (now (window .exit)) (now (staging .entry)) (now (staging .exit)) (now (journal .entry)) (now (journal .exit)) (now (table .entry)) (now (table .exit)) (now (busy .entry)) (now («busy_now» .entry)) (now («busy_now» .exit)) (now (majors .entry)) (now («majors_now» .entry)) (now («majors_now» .exit)) (now (pending .entry)) (now («pending_now» .entry)) (now («pending_now» .exit)) used ⌝ }
+    requires { ⌜ (time ≤ 2 ^ 62) × (pace ≤ 1000000) × (used ≤ length (now journal)) × (base + length (now window) ≤ 2 ^ 32) × (now busy ≡ now «busy_now») × (now majors ≡ now «majors_now») × (now pending ≡ now «pending_now») ⌝ }
+    ensures { λ r. ⌜ Carries again time pace base k r (now (window .entry)) (now (window .exit)) (now (staging .entry)) (now (staging .exit)) (now (journal .entry)) (now (journal .exit)) (now (table .entry)) (now (table .exit)) (now («busy_now» .entry)) (now («busy_now» .exit)) (now («majors_now» .entry)) (now («majors_now» .exit)) (now («pending_now» .entry)) (now («pending_now» .exit)) used ⌝ }
 {
+    let scalars = k.scalars;
+    let t = offered(again, scalars, time, busy_now, pending_now, used);
     let s = run_all(
         t,
         time,
@@ -189,63 +180,31 @@ fn carried(
         staging,
         journal,
     );
-    // an end past the journal stands for the journal's end: a world tells the two not apart, and so no contract does
-    let len = journal.len();
-    match s {
-        Step::Refused(why, c) => {
-            journal::roll_back(base, window, journal, used, words::least(c.at, len));
-            Done {
-                verdict: Verdict::Refused(why),
-                used,
-                scalars: before,
-                controllers,
-            }
-        }
-        Step::Going(c) => {
-            let at = words::least(c.at, len);
-            let mut after = c.scalars;
-            let anew = controllers::relevelled(controllers, after.int, ignore);
-            after.level = anew.level;
-            let settled = anew.controllers;
-            let Noted::At(end) = closing::end_turns(
-                before,
-                after,
-                controllers,
-                settled,
-                busy,
-                busy_now,
-                majors,
-                majors_now,
-                pending,
-                pending_now,
-                journal,
-                used,
-                at,
-            ) else {
-                journal::roll_back(base, window, journal, used, at);
-                return Done {
-                    verdict: Verdict::Refused(Refusal::Room),
-                    used,
-                    scalars: before,
-                    controllers,
-                };
-            };
-            Done {
-                verdict: Verdict::Accepted,
-                used: words::least(end, journal.len()),
-                scalars: after,
-                controllers: settled,
-            }
-        }
-    }
+    let r = end_turns(
+        k,
+        acting::settle(k, s),
+        busy,
+        busy_now,
+        majors,
+        majors_now,
+        pending,
+        pending_now,
+        journal,
+        used,
+    );
+    let verdict = r.verdict;
+    let Verdict::Accepted = verdict else {
+        journal::roll_back(base, window, journal, used, act::end_of(s));
+        return r;
+    };
+    r
 }
 
-// A run, or a service (`again`), on a device in parts: after a refusal they are as at entry.
-fn run_dma(
+// A run, or a service (`again`), on a device in parts: after a refusal they are as at entry. "Service": "a run follows if KICK is not 0", which a run
+// of no turns does not tell from none.
+pub fn run_in(
     again: bool,
-    scalars: Scalars,
-    controllers: [Controller; 3],
-    ignore: bool,
+    k: Core,
     time: u64,
     pace: u64,
     base: u32,
@@ -258,16 +217,14 @@ fn run_dma(
     journal: &mut [u8],
     used: usize,
 ) -> Done
-    requires { ⌜ Sounds scalars controllers ignore (now table) (now busy) (now majors) (now pending) ⌝ }
-    ensures { λ r. ⌜ Runs again time pace base scalars controllers ignore r (now (window .entry)) (now (window .exit)) (now (staging .entry)) (now (staging .exit)) (now (journal .entry)) (now (journal .exit)) (now (table .entry)) (now (table .exit)) (now (busy .entry)) (now (busy .exit)) (now (majors .entry)) (now (majors .exit)) (now (pending .entry)) (now (pending .exit)) used ⌝ }
+    ensures { λ r. ⌜ ((x : Arrays) → Runs again time pace base k r x (now (window .entry)) (now (window .exit)) (now (staging .entry)) (now (staging .exit)) (now (journal .entry)) (now (journal .exit)) (now (table .entry)) (now (table .exit)) (now (busy .entry)) (now (busy .exit)) (now (majors .entry)) (now (majors .exit)) (now (pending .entry)) (now (pending .exit)) used) ⌝ }
 {
     let v = tested(time, pace, base, window.len(), journal.len(), used);
     let Verdict::Accepted = v else {
         return Done {
             verdict: v,
             used,
-            scalars,
-            controllers,
+            core: k,
         };
     };
     let table_before = *table;
@@ -275,10 +232,8 @@ fn run_dma(
     let majors_before = *majors;
     let pending_before = *pending;
     let r = carried(
-        scalars,
-        controllers,
-        ignore,
-        offered(again, scalars, time, busy, pending, used),
+        again,
+        k,
         time,
         pace,
         base,
@@ -305,6 +260,47 @@ fn run_dma(
     r
 }
 
+// The same of a device by value.
+fn run_dma(
+    again: bool,
+    d: Device,
+    time: u64,
+    pace: u64,
+    base: u32,
+    window: &mut [u8],
+    staging: &mut [u8],
+    journal: &mut [u8],
+    used: usize,
+) -> Acted
+    ensures { λ r. ⌜ toldActed r (now (window .exit)) (now (staging .exit)) (now (journal .exit)) ≡ after (asked again time pace) base (view d) (now (window .entry)) (now (staging .entry)) (now (journal .entry)) used ⌝ }
+{
+    let mut table = d.table;
+    let mut busy = d.busy;
+    let mut majors = d.majors;
+    let mut pending = d.pending;
+    let r = run_in(
+        again,
+        act::core_of(d),
+        time,
+        pace,
+        base,
+        window,
+        &mut table,
+        &mut busy,
+        &mut majors,
+        &mut pending,
+        staging,
+        journal,
+        used,
+    );
+    let mut e = d;
+    e.table = table;
+    e.busy = busy;
+    e.majors = majors;
+    e.pending = pending;
+    act::answer(e, r)
+}
+
 // "Run": `now`, pace, base address, window, staging, journal.
 pub fn run(
     d: Device,
@@ -318,48 +314,10 @@ pub fn run(
 ) -> Acted
     ensures { λ r. ⌜ toldActed r (now (window .exit)) (now (staging .exit)) (now (journal .exit)) ≡ after (runCall time pace) base (view d) (now (window .entry)) (now (staging .entry)) (now (journal .entry)) used ⌝ }
 {
-    let mut table = d.table;
-    let mut busy = d.busy;
-    let mut majors = d.majors;
-    let mut pending = d.pending;
-    let scalars = d.scalars;
-    let controllers = d.controllers;
-    let r = run_dma(
-        false,
-        scalars,
-        controllers,
-        d.ignore_masks,
-        time,
-        pace,
-        base,
-        window,
-        &mut table,
-        &mut busy,
-        &mut majors,
-        &mut pending,
-        staging,
-        journal,
-        used,
-    );
-    let verdict = r.verdict;
-    let scalars_now = r.scalars;
-    let controllers_now = r.controllers;
-    Acted {
-        verdict,
-        used: r.used,
-        device: put_together(
-            d,
-            scalars_now,
-            controllers_now,
-            table,
-            busy,
-            majors,
-            pending,
-        ),
-    }
+    run_dma(false, d, time, pace, base, window, staging, journal, used)
 }
 
-// "Service": "a run follows if KICK is not 0", which a run of no turns does not tell from none.
+// "Service": the same.
 pub fn service(
     d: Device,
     time: u64,
@@ -372,43 +330,5 @@ pub fn service(
 ) -> Acted
     ensures { λ r. ⌜ toldActed r (now (window .exit)) (now (staging .exit)) (now (journal .exit)) ≡ after (serviceCall time pace) base (view d) (now (window .entry)) (now (staging .entry)) (now (journal .entry)) used ⌝ }
 {
-    let mut table = d.table;
-    let mut busy = d.busy;
-    let mut majors = d.majors;
-    let mut pending = d.pending;
-    let scalars = d.scalars;
-    let controllers = d.controllers;
-    let r = run_dma(
-        true,
-        scalars,
-        controllers,
-        d.ignore_masks,
-        time,
-        pace,
-        base,
-        window,
-        &mut table,
-        &mut busy,
-        &mut majors,
-        &mut pending,
-        staging,
-        journal,
-        used,
-    );
-    let verdict = r.verdict;
-    let scalars_now = r.scalars;
-    let controllers_now = r.controllers;
-    Acted {
-        verdict,
-        used: r.used,
-        device: put_together(
-            d,
-            scalars_now,
-            controllers_now,
-            table,
-            busy,
-            majors,
-            pending,
-        ),
-    }
+    run_dma(true, d, time, pace, base, window, staging, journal, used)
 }

@@ -6,6 +6,7 @@ use Prim.Native.Nat.{ℕ, suc, _+_, _-_, _*_, _/_, _%_, _^_, _≤_, _<_}
 use native.Mathlib.Nat.{add-zero, zero-mul, mod-eq-of-lt, div-self, min-eq-left, min-eq-right}
 use native.Mathlib.Numerals.{add-one}
 use native.Mathlib.Omega.{arith}
+use borrow.Author.Tests.{eqb-true, ne-eqb}
 use Rattle.rules.specs.Act.{Act, window, _>>=_, _>>_, nothing, fetch, store}
 use Rattle.rules.specs.Bytes.{number, part}
 use Rattle.rules.specs.Calls.{worldOf}
@@ -16,6 +17,7 @@ use Rattle.rules.specs.State.{Device}
 use Rattle.rules.specs.declared.Refusal.the-variants as Refusal
 use Rattle.rules.proofs.Steps.{fetch-inside, fetch-outside}
 use Rattle.words.specs.Sizes.{aSize, Sized}
+use Rattle.words.specs.Widths.{MemoryWidth}
 use Rattle.act.specs.Worlds.{walked}
 use Rattle.act.specs.declared.Walk.the-variants as Walk
 use Rattle.memory.specs.Places.{placeOf}
@@ -32,12 +34,17 @@ module _ (base : ℕ) (lent : Lent) (dev : Device) (w j : List ℕ) (e u a b : �
   unfolding walked moveUnit fetch _>>=_
   unit-outside h = sym (fetch-outside base lent window a u (λ v. store window b u (number v)) (worldOf dev w j e) (not-there base w a u asked h dev))
 
-  pub unit-read : {i v : ℕ} {r : Out (Unit {0})} → p ≡ At i → v ≡ number (part w i u) → r ≡ go base lent (store window b u v) (worldOf dev w j e)
+  -- stored with the width k that a match told
+  pub unit-read : {k i v : ℕ} {r : Out (Unit {0})} → u ≡ k → p ≡ At i → v ≡ number (part w i k) → r ≡ go base lent (store window b k v) (worldOf dev w j e)
       → r ≡ go base lent (moveUnit u a b) (worldOf dev w j e)
   unfolding moveUnit fetch _>>=_ fetched bytesOf
-  unit-read h got did =
-      did ∙ rw (got, at-index base w a u asked h)
+  unit-read is h got did =
+      did ∙ rw (got, ← is, at-index base w a u asked h)
       (sym (fetch-inside base lent window a u (λ v. store window b u (number v)) (worldOf dev w j e) (at-there base w a u asked h dev)))
+
+-- a width that is neither 1 nor 2
+pub four : (u : ℕ) → MemoryWidth u → (u ≡ 1 → ⊥) → (u ≡ 2 → ⊥) → u ≡ 4
+four u h n₁ n₂ = eqb-true u 4 (rw (ne-eqb u 1 n₁, ne-eqb u 2 n₂) at (h .one-of))
 
 -- ---- units in turn: number k of `count`
 

@@ -9,6 +9,7 @@ ghost use Prim.Native.Nat.{_+_, _*_, _%_, _^_, _≤_, _<_};
 ghost use Rattle.rules.specs.Act.{store, window as inWindow};
 ghost use Rattle.rules.specs.Minor.{moveUnit, moveUnits, moveSizes};
 ghost use Rattle.words.specs.Sizes.{Sized};
+ghost use Rattle.words.specs.Widths.{MemoryWidth};
 ghost use Rattle.act.specs.Worlds.{Walks};
 ghost use Rattle.equal_sizes.specs.Moves.{Moves};
 
@@ -27,104 +28,64 @@ pub enum Moved {
 }
 
 // ---- a unit stored, "one record per store, changed or not, before the store"; "9 before 11 at one store". The old value is read and room for its
-// record is asked before the store; the record's bytes are laid down after it, which nobody sees, and which takes fewer instructions.
+// record is asked before the store; the record's bytes are laid down after it, which nobody sees, and which takes fewer instructions. Callers give
+// a constant width, so that one arm of `get_width` and of `put_width` is left.
 
-pub fn store1(
+pub fn store(
     base: u32,
     window: &mut [u8],
     address: u32,
-    value: u8,
+    width: usize,
+    value: u64,
     journal: &mut [u8],
     at: usize,
 ) -> Walk
-    ensures { λ r. ⌜ Walks (store inWindow address 1 value) base at r (now (window .entry)) (now (window .exit)) (now (journal .entry)) (now (journal .exit)) ⌝ }
+    requires { ⌜ MemoryWidth width ⌝ }
+    ensures { λ r. ⌜ Walks (store inWindow address width value) base at r (now (window .entry)) (now (window .exit)) (now (journal .entry)) (now (journal .exit)) ⌝ }
 {
-    let Place::At(i) = memory::where_is(base, window, address, 1) else {
+    let Place::At(i) = memory::where_is(base, window, address, width) else {
         return Walk::Off(Refusal::Outside, at);
     };
     if !journal::has_room(journal, at) {
         return Walk::Off(Refusal::Room, at);
     }
-    let old = words::get1(window, i);
-    words::put1(window, i, value);
-    journal::put_record(journal, at, 0, 1, address, old as u64);
+    let old = words::get_width(window, i, width);
+    words::put_width(window, i, width, value);
+    journal::put_record(journal, at, 0, width as u8, address, old);
     Walk::On(at + 16)
 }
 
-pub fn store2(
+// ---- a unit moved. Each arm stores with a constant width, which takes fewer instructions than one store with the width as it comes.
+
+fn move_unit(
     base: u32,
     window: &mut [u8],
-    address: u32,
-    value: u16,
+    width: usize,
+    a: u32,
+    b: u32,
     journal: &mut [u8],
     at: usize,
 ) -> Walk
-    ensures { λ r. ⌜ Walks (store inWindow address 2 value) base at r (now (window .entry)) (now (window .exit)) (now (journal .entry)) (now (journal .exit)) ⌝ }
+    requires { ⌜ MemoryWidth width ⌝ }
+    ensures { λ r. ⌜ Walks (moveUnit width a b) base at r (now (window .entry)) (now (window .exit)) (now (journal .entry)) (now (journal .exit)) ⌝ }
 {
-    let Place::At(i) = memory::where_is(base, window, address, 2) else {
+    let Place::At(i) = memory::where_is(base, window, a, width) else {
         return Walk::Off(Refusal::Outside, at);
     };
-    if !journal::has_room(journal, at) {
-        return Walk::Off(Refusal::Room, at);
+    match width {
+        1 => {
+            let v = words::get1(window, i);
+            store(base, window, b, 1, v as u64, journal, at)
+        }
+        2 => {
+            let v = words::get2(window, i);
+            store(base, window, b, 2, v as u64, journal, at)
+        }
+        _ => {
+            let v = words::get4(window, i);
+            store(base, window, b, 4, v as u64, journal, at)
+        }
     }
-    let old = words::get2(window, i);
-    words::put2(window, i, value);
-    journal::put_record(journal, at, 0, 2, address, old as u64);
-    Walk::On(at + 16)
-}
-
-pub fn store4(
-    base: u32,
-    window: &mut [u8],
-    address: u32,
-    value: u32,
-    journal: &mut [u8],
-    at: usize,
-) -> Walk
-    ensures { λ r. ⌜ Walks (store inWindow address 4 value) base at r (now (window .entry)) (now (window .exit)) (now (journal .entry)) (now (journal .exit)) ⌝ }
-{
-    let Place::At(i) = memory::where_is(base, window, address, 4) else {
-        return Walk::Off(Refusal::Outside, at);
-    };
-    if !journal::has_room(journal, at) {
-        return Walk::Off(Refusal::Room, at);
-    }
-    let old = words::get4(window, i);
-    words::put4(window, i, value);
-    journal::put_record(journal, at, 0, 4, address, old as u64);
-    Walk::On(at + 16)
-}
-
-// ---- a unit moved
-
-fn move_unit1(base: u32, window: &mut [u8], a: u32, b: u32, journal: &mut [u8], at: usize) -> Walk
-    ensures { λ r. ⌜ Walks (moveUnit 1 a b) base at r (now (window .entry)) (now (window .exit)) (now (journal .entry)) (now (journal .exit)) ⌝ }
-{
-    let Place::At(i) = memory::where_is(base, window, a, 1) else {
-        return Walk::Off(Refusal::Outside, at);
-    };
-    let v = words::get1(window, i);
-    store1(base, window, b, v, journal, at)
-}
-
-fn move_unit2(base: u32, window: &mut [u8], a: u32, b: u32, journal: &mut [u8], at: usize) -> Walk
-    ensures { λ r. ⌜ Walks (moveUnit 2 a b) base at r (now (window .entry)) (now (window .exit)) (now (journal .entry)) (now (journal .exit)) ⌝ }
-{
-    let Place::At(i) = memory::where_is(base, window, a, 2) else {
-        return Walk::Off(Refusal::Outside, at);
-    };
-    let v = words::get2(window, i);
-    store2(base, window, b, v, journal, at)
-}
-
-fn move_unit4(base: u32, window: &mut [u8], a: u32, b: u32, journal: &mut [u8], at: usize) -> Walk
-    ensures { λ r. ⌜ Walks (moveUnit 4 a b) base at r (now (window .entry)) (now (window .exit)) (now (journal .entry)) (now (journal .exit)) ⌝ }
-{
-    let Place::At(i) = memory::where_is(base, window, a, 4) else {
-        return Walk::Off(Refusal::Outside, at);
-    };
-    let v = words::get4(window, i);
-    store4(base, window, b, v, journal, at)
 }
 
 // ---- sizes of 1, 2 and 4 bytes, each one unit: "only the step by `soff` or `doff` after each whole size uses modulo"
@@ -147,7 +108,7 @@ fn move_sizes1(
     let mut end = at;
     let mut left = count;
     while left != 0 {
-        match move_unit1(base, window, s, d, journal, end) {
+        match move_unit(base, window, 1, s, d, journal, end) {
             Walk::On(next) => {
                 end = next;
             }
@@ -180,7 +141,7 @@ fn move_sizes2(
     let mut end = at;
     let mut left = count;
     while left != 0 {
-        match move_unit2(base, window, s, d, journal, end) {
+        match move_unit(base, window, 2, s, d, journal, end) {
             Walk::On(next) => {
                 end = next;
             }
@@ -213,7 +174,7 @@ fn move_sizes4(
     let mut end = at;
     let mut left = count;
     while left != 0 {
-        match move_unit4(base, window, s, d, journal, end) {
+        match move_unit(base, window, 4, s, d, journal, end) {
             Walk::On(next) => {
                 end = next;
             }
@@ -256,7 +217,7 @@ fn move_units4(
     while k < count {
         let a = unit_at(from, k);
         let b = unit_at(to, k);
-        match move_unit4(base, window, a, b, journal, end) {
+        match move_unit(base, window, 4, a, b, journal, end) {
             Walk::On(next) => {
                 end = next;
             }

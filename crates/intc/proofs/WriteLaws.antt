@@ -16,13 +16,14 @@ use Rattle.rules.specs.Bytes.{Bytes, bytes, splice}
 use Rattle.rules.specs.Calls.{isNone, orNothing}
 use Rattle.rules.specs.Fields.{controller, noController, bitsOf}
 use Rattle.rules.specs.Registers.{within, withBytesIn, levelsWrite, pick, controllerArms, controllerWrite}
-use Rattle.rules.specs.View.{viewController, view}
+use Rattle.rules.specs.View.{viewController}
 use Rattle.rules.specs.declared.Controller.{Controller as HeldController}
-use Rattle.rules.specs.declared.Device.{Device as HeldDevice}
 use Rattle.rules.specs.With.{withControllers, withMasks, withForced, withConfig, withLevels}
 use Rattle.rules.proofs.BytesLaws.{length-splice, splice-cons}
-use Rattle.rules.proofs.ViewLaws.{map-set, noHeld, controller-viewed}
+use Rattle.rules.proofs.ViewLaws.{map-set, controller-viewed}
 use Rattle.act.specs.Does.{Does}
+use Rattle.act.specs.Parts.{Arrays, whole, heldAt}
+use Rattle.act.specs.declared.Core.{Core}
 use Rattle.act.proofs.DoesLaws.{answers-done, answers-bind, does-put, does-cut, does-change}
 use Rattle.intc.specs.Writes.{writeTo, commandAt, InController, WrittenIn, Written}
 use Rattle.masks.proofs.Ranges.{never}
@@ -166,13 +167,13 @@ written-device write c d known e l w = record {
   keeps = λ t. ap (λ (x : List Controller). withControllers d x) (ap (set (d .controllers) c) (w .keeps t) ∙ set-getD (d .controllers) c noController);
 }
 
--- the same of a device as code holds it
-pub written-held : (write : ℕ → Option (Act (Unit {0}))) (c : ℕ) (d : HeldDevice) (known : Bool) (e : HeldController) → c < length (view d .controllers)
-    → WrittenIn write (viewController (getD (d .controllers) c noHeld)) known (viewController e)
-    → Written (write c) (view d) known (withControllers (view d) (map viewController (set (d .controllers) c e)))
-written-held write c d known e l w =
-    rw (map-set viewController (d .controllers) c e)
-    (written-device write c (view d) known (viewController e) l (subst (λ (k : Controller). WrittenIn write k known (viewController e)) (sym (controller-viewed (d .controllers) c)) w))
+-- the same of a device in parts
+pub written-held : (write : ℕ → Option (Act (Unit {0}))) (c : ℕ) (k : Core) (x : Arrays) (known : Bool) (e : HeldController) → c < length (whole k x .controllers)
+    → WrittenIn write (heldAt k c) known (viewController e)
+    → Written (write c) (whole k x) known (withControllers (whole k x) (map viewController (set (k .controllers) c e)))
+written-held write c k x known e l w =
+    rw (map-set viewController (k .controllers) c e)
+    (written-device write c (whole k x) known (viewController e) l (subst (λ (n : Controller). WrittenIn write n known (viewController e)) (sym (controller-viewed (k .controllers) c)) w))
 
 -- ---- arms that are no ranges
 

@@ -1,14 +1,16 @@
 // The registers of an interrupt controller: reads, and writes on the controller and on the device around it. Matches on offset and size go
 // one number at a time. Quoted words are document 01's.
+use act::Core;
 use rules::Controller;
-use rules::Device;
 ghost use mathlib.Core.Path.{_≡_};
 ghost use Prim.Native.Nat.{_+_, _≤_, _<_};
 ghost use lib.ListN.{set};
-ghost use Rattle.rules.specs.View.{viewController, view};
+ghost use Rattle.rules.specs.View.{viewController};
 ghost use Rattle.rules.specs.Bytes.{bytes, splice};
 ghost use Rattle.rules.specs.Registers.{within, named, controllerRead, controllerWrite};
 ghost use Rattle.rules.specs.With.{withLevels};
+ghost use Rattle.rules.proofs.Each.{Proper};
+ghost use Rattle.act.specs.Parts.{Arrays, whole};
 ghost use Rattle.intc.specs.Cells.{reads};
 ghost use Rattle.intc.specs.Writes.{InWord, writeTo, commandAt, WrittenIn, Written};
 
@@ -216,23 +218,23 @@ pub fn controller_written(k: Controller, off: u32, size: u32, v: u32) -> Kept
     command_written(k, off, size, v)
 }
 
-// A device after a write, and whether there is such a register.
+// A device's core after a write, and whether there is such a register.
 pub struct Wrote {
     pub known: bool,
-    pub device: Device,
+    pub core: Core,
 }
 
-// A write to controller `c`. Where there is no such register, the device is unchanged.
-pub fn intc_write(d: Device, c: usize, off: u32, size: u32, v: u32) -> Wrote
+// A write to controller `c`. Where there is no such register, the core is unchanged.
+pub fn intc_write(k: Core, c: usize, off: u32, size: u32, v: u32) -> Wrote
     requires { ⌜ (c < 3) × (0 < size) × (size ≤ 4) × InWord off size ⌝ }
-    ensures { λ r. ⌜ Written (controllerWrite c off size v) (view d) (r .known) (view (r .device)) ⌝ }
+    ensures { λ r. ⌜ ((x : Arrays) → Proper (whole k x) → Written (controllerWrite c off size v) (whole k x) (r .known) (whole (r .core) x)) ⌝ }
 {
-    let w = controller_written(d.controllers[c], off, size, v);
-    let mut e = d;
-    let k = w.controller;
-    e.controllers[c] = k;
+    let w = controller_written(k.controllers[c], off, size, v);
+    let mut e = k;
+    let written = w.controller;
+    e.controllers[c] = written;
     Wrote {
         known: w.known,
-        device: e,
+        core: e,
     }
 }

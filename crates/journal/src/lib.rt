@@ -106,12 +106,22 @@ fn undo_one(base: u32, window: &mut [u8], journal: &[u8], p: usize)
     words::put_width(window, i, width, old);
 }
 
-// Undoes the memory records from `from` up to `to`. "Undoing goes last to first."
-pub fn undo_window(base: u32, window: &mut [u8], journal: &[u8], from: usize, to: usize)
-    requires { ⌜ (from ≤ to) × (to ≤ length (now journal)) ⌝ }
+// How far it is from `from` to `to`: 0 where that is before.
+pub fn span(from: usize, to: usize) -> usize
+    ensures { λ r. ⌜ r ≡ to - from ⌝ }
+{
+    if to < from {
+        return 0;
+    }
+    to - from
+}
+
+// Undoes the memory records from `from` up to `to`: none where that is before. "Undoing goes last to first."
+fn undo_window(base: u32, window: &mut [u8], journal: &[u8], from: usize, to: usize)
+    requires { ⌜ to ≤ length (now journal) ⌝ }
     ensures { λ _. ⌜ now (window .exit) ≡ undoLines base ((to - from) / 16) (drop from (now (journal .entry))) (now (window .entry)) ⌝ }
 {
-    let count = (to - from) / 16;
+    let count = span(from, to) / 16;
     let mut done = 0;
     while done < count {
         let last = count - done - 1;
@@ -123,7 +133,7 @@ pub fn undo_window(base: u32, window: &mut [u8], journal: &[u8], from: usize, to
 // Takes back the stores in the window since the journal ended at `used`, where it ends at `at` now. "Journal bytes past the used length: zero
 // to the end." An `at` past the journal's end counts as the end: both stand for the same world, so no contract of a caller can rule it out.
 pub fn roll_back(base: u32, window: &mut [u8], journal: &mut [u8], used: usize, at: usize)
-    requires { ⌜ (used ≤ at) × (used ≤ length (now journal)) ⌝ }
+    requires { ⌜ used ≤ length (now journal) ⌝ }
     ensures { λ _. ⌜ RolledBack base used at (now (window .entry)) (now (journal .entry)) (now (window .exit)) (now (journal .exit)) ⌝ }
 {
     let len = journal.len();

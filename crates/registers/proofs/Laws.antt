@@ -7,10 +7,11 @@ use Prim.Native.Nat.{ℕ, zero, suc, _+_, _%_, _^_, _≤_, _<_}
 use native.Mathlib.Omega.{arith}
 use borrow.Author.Tests.{le-leb, leb-false, ltb-false, ne-eqb, lt-ltb}
 use lib.Dec.{eqb, ltb}
-use lib.ListN.{length, take, drop}
-use Rattle.rules.specs.Act.{Act}
-use Rattle.rules.specs.Calls.{Asked, write, actOf, badSize, badJournal, isNone, orNothing, check, wrong, wrongRead, levelled, Told, told, toldActed, toldAfter, stagingAfter, toldReading, toldRead, refusalNumber, orZero, worldOf, after, afterRead}
-use Rattle.rules.specs.Carry.{Out, ok, go, leave, perform, Lent, lending}
+use lib.ListN.{length, set, take, drop}
+use Rattle.rules.specs.Act.{Act, PENDING}
+use Rattle.rules.specs.Calls.{Asked, write, actOf, setPending, badSize, badJournal, isNone, orNothing, check, wrong, wrongRead, levelled, Told, told, toldActed, toldHeard, toldAfter, stagingAfter, toldReading, toldRead, refusalNumber, orZero, worldOf, after, afterRead}
+use Rattle.rules.specs.Carry.{Out, ok, changed, go, leave, perform, Lent, lending}
+use Rattle.rules.specs.Fields.{bitsOf, fieldsOf}
 use Rattle.rules.specs.Registers.{within, inBlocks, inTable, blockOf, offsetOf, dmaRead, dmaWrite, readIn, readAt, writeIn, writeAt, controllerWrite, pastTable, pastWord}
 use Rattle.rules.specs.declared.Acted.{Acted}
 use Rattle.rules.specs.State.{Device}
@@ -23,9 +24,21 @@ use Rattle.rules.specs.declared.Refusal.{Refusal}
 use Rattle.rules.specs.declared.Refusal.the-variants as Refusal
 use Rattle.rules.specs.declared.Verdict.the-variants as Verdict
 use Rattle.rules.proofs.BoolLaws.{and-left, and-both}
-use Rattle.act.specs.Does.{Answers}
+use Rattle.rules.proofs.Each.{Proper}
+use Rattle.act.specs.Does.{Answers, Does}
+use Rattle.act.specs.Parts.{Arrays, tabled, counted, taking, whole, held, coreOf, arraysOf, toldDone}
 use Rattle.act.specs.Worlds.{on, told as step-told}
+use Rattle.act.specs.declared.Core.{Core}
+use Rattle.act.specs.declared.Done.{Done}
 use Rattle.act.specs.declared.Step.the-variants.{Going}
+use Rattle.act.specs.declared.Walk.the-variants.{On}
+use Rattle.act.proofs.DoesLaws.{does-put}
+use Rattle.closing.specs.Closes.{noting, addAll, addEnd, Notes, Part, coreIn}
+use Rattle.closing.specs.declared.Noted.{Noted}
+use Rattle.closing.specs.declared.Noted.the-variants.{At}
+use Rattle.acting.specs.Ending.{begunAt, doneBy, clearedFrom, Settled, Settles}
+use Rattle.acting.specs.declared.Reached.{Reached}
+use Rattle.acting.proofs.Laws.{told-made, told-cleared, does-goes, counts-noted, taken-noted}
 use Rattle.intc.specs.Writes.{InWord}
 use Rattle.masks.proofs.Ranges.{within-true}
 use Rattle.dma_read.specs.Access.{Fair}
@@ -140,10 +153,10 @@ module _ (m : Act Heard) (base : ℕ) (d : Device) (w staging j : List ℕ) (use
   unfolding asked
   accepts e q = rw e q
 
--- of a device as code holds it
-pub refuses : (m : Act Heard) (base : ℕ) (d : HeldDevice) (w staging j : List ℕ) (used : ℕ) (why : Refusal) {n : ℕ} {r : Acted}
-    → r ≡ record { verdict = Verdict.Refused why; used = used; device = d } → n ≡ refusalNumber why → toldActed r w staging j ≡ asked n m base (view d) w staging j used
-refuses m base d w staging j used why e f = rw (e, f) (told-no m base (view d) w staging j used why)
+-- of a device in parts
+pub refuses : (m : Act Heard) (base : ℕ) (k : Core) (x : Arrays) (w staging j : List ℕ) (used : ℕ) (why : Refusal) {n : ℕ} {r : Done}
+    → r ≡ record { verdict = Verdict.Refused why; used = used; core = k } → n ≡ refusalNumber why → toldDone Heard.Nothing r x w staging j ≡ asked n m base (whole k x) w staging j used
+refuses m base k x w staging j used why e f = rw (e, f) (told-no m base (whole k x) w staging j used why)
 
 -- a call that leaves staging as it is
 pub asked-after : (c : Asked) (base : ℕ) (d : Device) (w staging j : List ℕ) (used : ℕ) → stagingAfter c staging ≡ staging
@@ -161,12 +174,12 @@ asked-after c base d w staging j used e = by (wrong base (length w) (length j) u
 -- ---- write, by the block
 
 -- the refusals before a block is known
-pub write-no : (address size v base : ℕ) (d : HeldDevice) (w staging j : List ℕ) (used : ℕ) (why : Refusal) {r : Acted}
-    → r ≡ record { verdict = Verdict.Refused why; used = used; device = d } → wrong base (length w) (length j) used (write address size v) ≡ refusalNumber why
-    → toldActed r w staging j ≡ after (write address size v) base (view d) w staging j used
+pub write-no : (address size v base : ℕ) (k : Core) (x : Arrays) (w staging j : List ℕ) (used : ℕ) (why : Refusal) {r : Done}
+    → r ≡ record { verdict = Verdict.Refused why; used = used; core = k } → wrong base (length w) (length j) used (write address size v) ≡ refusalNumber why
+    → toldDone Heard.Nothing r x w staging j ≡ after (write address size v) base (whole k x) w staging j used
 unfolding stagingAfter
-write-no address size v base d w staging j used why e f =
-    refuses (actOf (write address size v)) base d w staging j used why e f ∙ asked-after (write address size v) base (view d) w staging j used refl
+write-no address size v base k x w staging j used why e f =
+    refuses (actOf (write address size v)) base k x w staging j used why e f ∙ asked-after (write address size v) base (whole k x) w staging j used refl
 
 module _ (address size v base : ℕ) (d : Device) (w staging j : List ℕ) (used : ℕ) where
   abbrev off : ℕ
@@ -195,11 +208,11 @@ module _ (address size v base : ℕ) (d : Device) (w staging j : List ℕ) (used
       write-controller-after c z =
           rw (← asked-after (write address size v) base d w staging j used refl, s, b, z, ne-eqb (suc c) 0 (λ e. omega arith), lt-ltb 0 (suc c) (omega arith))
 
--- a DMA write begins with a device's numbers and table, which are put back
-pub dma-goes : (base : ℕ) (lent : Lent) (act : Act (Unit {0})) (d : HeldDevice) (w j : List ℕ) (at : ℕ) {r o : Out (Unit {0})}
-    → r ≡ o → o ≡ on base lent act (step-told (Going (record { scalars = d .scalars; at = at })) (view d) w j (d .table) (d .majors)) → r ≡ go base lent act (worldOf (view d) w j at)
+-- a DMA write begins with a core's numbers and the table t, and comes to the table t′
+pub dma-goes : (base : ℕ) (lent : Lent) (act : Act (Unit {0})) (k : Core) (x : Arrays) (t t′ : List ℕ) (w j : List ℕ) (at : ℕ) {o : Out (Unit {0})}
+    → o ≡ on base lent act (step-told (Going (record { scalars = k .scalars; at = at })) (whole k (tabled x t′)) w j t (x .majors)) → o ≡ go base lent act (worldOf (whole k (tabled x t)) w j at)
 unfolding on step-told
-dma-goes base lent act d w j at e f = e ∙ f
+dma-goes base lent act k x t t′ w j at f = f
 
 -- ---- read, by the block
 
@@ -235,10 +248,74 @@ module _ (d : Device) (address size : ℕ) where
       unfolding wrongRead check readAt offsetOf pastTable
       read-controller-after c z = rw (← after-read, s, b, z, ne-eqb (suc c) 0 (λ e. omega arith))
 
+-- ---- acts on a device in parts, from what their steps and their last records ensure
+
+-- how an act without a store settles
+pub stored-settled : (base : ℕ) (lent : Lent) (act : Act (Unit {0})) (d : Device) (k : Core) (x : Arrays) (w j : List ℕ) (used : ℕ) (s : Reached) → Proper d → used ≤ length j
+    → Settles k (Going (record { scalars = k .scalars; at = used })) s → Does act d (whole k x) → Settled k x (Going (record { scalars = k .scalars; at = used })) s base lent act d w j w j used
+stored-settled base lent act d k x w j used s p fits settles does = settles x base lent act d w j w j used p fits (does-goes base lent act d k x w j used does)
+
+pub pending-does : (k : Core) (x : Arrays) (q : List ℕ) (ch count : ℕ) → count < 2 ^ 32 → Does (setPending ch count) (whole k (counted x q)) (whole k (counted x (set q ch count)))
+unfolding setPending bitsOf
+pending-does k x q ch count h = does-put (whole k (counted x q)) (PENDING ch) count h
+
+module _ (k : Core) (s : Reached) (x : Arrays) (q q′ : List ℕ) (used : ℕ) (j : List ℕ) (act : Act (Unit {0})) (p : Proper (whole k (counted x q))) (fits : used ≤ length j)
+    (settles : Settles k (Going (record { scalars = k .scalars; at = used })) s) (does : Does act (whole k (counted x q)) (whole k (counted x q′)))
+    {b t₁ t₂ n : Noted} {j₁ j₂ j₃ : List ℕ} (begins : b ≡ begunAt (s .walk)) (core : Notes 0 (coreIn k) (coreIn (s .core)) b t₁ j j₁) (counts : Part 64 192 q q′ t₁ t₂ j₁ j₂)
+    (end : noting n j₃ ≡ addEnd used (noting t₂ j₂)) (r : Done) (is : r ≡ doneBy k s n used) (base : ℕ) (w staging : List ℕ)
+  where
+    abbrev lends : Lent
+    lends = lending (length staging)
+
+    went : Settled k (counted x q′) (Going (record { scalars = k .scalars; at = used })) s base lends act (whole k (counted x q)) w j w j used
+    went = stored-settled base lends act (whole k (counted x q)) k (counted x q′) w j used s p fits settles does
+
+    noted : noting n j₃ ≡ addEnd used (addAll (changed 0 (fieldsOf (whole k (counted x q))) (fieldsOf (whole (s .core) (counted x q′)))) (noting (begunAt (s .walk)) j))
+    noted = counts-noted k s (counted x q) p q′ used j begins (went .levels) core counts end
+
+    pub counts-made : r .verdict ≡ Verdict.Accepted
+        → toldDone Heard.Nothing r (counted x q′) w staging j₃ ≡ toldAfter staging used (perform base lends (levelled act) (worldOf (whole k (counted x q)) w j used))
+    counts-made v = told-made k (counted x q) (counted x q′) Heard.Nothing used w j w j j₃ fits (went .since) base lends (levelled act) s n (went .later) (went .left) noted r is staging v
+
+    pub counts-unmade : {why : Refusal} {j₄ : List ℕ} → r .verdict ≡ Verdict.Refused why → j₄ ≡ clearedFrom used j₃
+        → toldDone Heard.Nothing r (counted x q) w staging j₄ ≡ toldAfter staging used (perform base lends (levelled act) (worldOf (whole k (counted x q)) w j used))
+    counts-unmade v c = told-cleared k (counted x q) (counted x q′) Heard.Nothing used w j w j j₃ fits (went .since) base lends (levelled act) s n (went .later) (went .left) noted r is staging v c
+
 -- ---- acknowledge
 
-pub heard-made : (base : ℕ) (m : Act Heard) (d e : Device) (w staging j : List ℕ) (used : ℕ) (h : Heard) {x : Told} → Answers m d h e
-    → x ≡ toldAfter staging used (leave (worldOf d w j used) (ok h (worldOf e w j used)))
-    → x ≡ toldAfter staging used (perform base (lending (length staging)) m (worldOf d w j used))
+heard-left : (base : ℕ) (lent : Lent) (m : Act Heard) (d e : Device) (w j : List ℕ) (used : ℕ) (h : Heard) → Answers m d h e
+    → perform base lent m (worldOf d w j used) ≡ leave (worldOf d w j used) (ok h (worldOf e w j used))
 unfolding perform Answers
-heard-made base m d e w staging j used h a q = rw (a base (lending (length staging)) w (take used j) (drop used j)) q
+heard-left base lent m d e w j used h a = rw (a base lent w (take used j) (drop used j)) refl
+
+module _ (k : Core) (x : Arrays) (q q′ : List ℕ) (used : ℕ) (j : List ℕ) (m : Act Heard) (h : Heard) (p : Proper (whole k (taking x q))) (fits : used ≤ length j)
+    (answers : Answers m (whole k (taking x q)) h (whole k (taking x q′))) {t n : Noted} {j₁ j₂ : List ℕ} (counts : Part 192 576 q q′ (At used) t j j₁)
+    (end : noting n j₂ ≡ addEnd used (noting t j₁)) (r : Done) (is : r ≡ doneBy k (record { walk = On used; core = k }) n used) (base : ℕ) (w staging : List ℕ)
+  where
+    abbrev left : perform base (lending (length staging)) m (worldOf (whole k (taking x q)) w j used) ≡ leave (worldOf (whole k (taking x q)) w j used) (ok h (worldOf (whole k (taking x q′)) w j used))
+    left = heard-left base (lending (length staging)) m (whole k (taking x q)) (whole k (taking x q′)) w j used h answers
+
+    pub heard-made : r .verdict ≡ Verdict.Accepted
+        → toldDone h r (taking x q′) w staging j₂ ≡ toldAfter staging used (perform base (lending (length staging)) m (worldOf (whole k (taking x q)) w j used))
+    heard-made v =
+        told-made k (taking x q) (taking x q′) h used w j w j j₂ fits (record { front = refl; long = refl }) base (lending (length staging)) m (record { walk = On used; core = k }) n (omega arith) left
+        (taken-noted k (taking x q) p q′ used used j counts end) r is staging v
+
+    pub heard-unmade : {why : Refusal} {j₃ : List ℕ} → r .verdict ≡ Verdict.Refused why → j₃ ≡ clearedFrom used j₂
+        → toldDone Heard.Nothing r (taking x q) w staging j₃ ≡ toldAfter staging used (perform base (lending (length staging)) m (worldOf (whole k (taking x q)) w j used))
+    heard-unmade v c =
+        told-cleared k (taking x q) (taking x q′) h used w j w j j₂ fits (record { front = refl; long = refl }) base (lending (length staging)) m (record { walk = On used; core = k }) n (omega arith) left
+        (taken-noted k (taking x q) p q′ used used j counts end) r is staging v c
+
+-- ---- a device by value
+
+pub made-whole : (c : Asked) (base : ℕ) (d : HeldDevice) (y : Arrays) (w staging j j′ : List ℕ) (used : ℕ) (k : Core) (r : Done) {a : Acted} → k ≡ coreOf d
+    → toldDone Heard.Nothing r y w staging j′ ≡ after c base (whole k (arraysOf d)) w staging j used
+    → a ≡ record { verdict = r .verdict; used = r .used; device = held (r .core) y } → toldActed a w staging j′ ≡ after c base (view d) w staging j used
+made-whole c base d y w staging j j′ used k r e f g = rw g (rw e at f)
+
+pub made-heard : (c : Asked) (h : Heard) (base : ℕ) (d : HeldDevice) (y : Arrays) (w staging j j′ : List ℕ) (used : ℕ) (k : Core) (r : Done) {a : Acted} → k ≡ coreOf d
+    → toldDone h r y w staging j′ ≡ after c base (whole k (arraysOf d)) w staging j used
+    → a ≡ record { verdict = r .verdict; used = r .used; device = held (r .core) y }
+    → toldHeard (record { verdict = a .verdict; heard = h; used = a .used; device = a .device }) w staging j′ ≡ after c base (view d) w staging j used
+made-heard c h base d y w staging j j′ used k r e f g = rw g (rw e at f)

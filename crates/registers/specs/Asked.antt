@@ -1,9 +1,9 @@
 -- What the calls promise: all that is there after them, for every base, window and staging. Assumes nothing.
-use mathlib.Core.Bool.{Bool, _&&_}
+use mathlib.Core.Bool.{Bool, false, _&&_}
 use mathlib.Core.List.{List}
 use mathlib.Core.Option.{Option}
 use mathlib.Core.Path.{_≡_}
-use Prim.Native.Nat.{ℕ, zero, suc, _+_, _%_, _≤_}
+use Prim.Native.Nat.{ℕ, zero, suc, _+_, _%_}
 use lib.Dec.{ltb}
 use lib.ListN.{length}
 use Rattle.rules.specs.Act.{Act}
@@ -15,11 +15,11 @@ use Rattle.rules.specs.declared.Acted.{Acted}
 use Rattle.rules.specs.State.{Device}
 use Rattle.rules.specs.declared.Heard.{Heard}
 use Rattle.rules.specs.declared.Heard.the-variants as Heard
-use Rattle.rules.proofs.Each.{Each}
-use Rattle.rules.proofs.Spares.{sparing}
+use Rattle.rules.proofs.Each.{Proper}
 use Rattle.act.specs.Does.{Does}
-use Rattle.closing.specs.declared.Touched.{Touched}
-use Rattle.acting.specs.Ending.{touchedBy}
+use Rattle.act.specs.Parts.{Arrays, whole, SameLevels, toldDone}
+use Rattle.act.specs.declared.Core.{Core}
+use Rattle.act.specs.declared.Done.{Done}
 
 -- ---- refusal 4, by the offset
 
@@ -43,20 +43,16 @@ asked zero m base d w staging j used = toldAfter staging used (perform base (len
 asked (suc n) m base d w staging j used = told (suc n) Heard.Nothing d w staging j used
 
 -- of a write within a block: what it does there, if there is such a register, and whether it is refused by 4
-abbrev pub Writes : Option (Act (Unit {0})) → Bool → Device → ℕ → Acted → List ℕ → List ℕ → Type 0
-Writes does past d used r j j′ = (base : ℕ) (w staging : List ℕ)
-    → toldActed r w staging j′ ≡ asked (check (isNone does) 3 (check past 4 (check (badJournal (length j) used) 6 0))) (levelled (orNothing does)) base d w staging j used
+abbrev pub Writes : Option (Act (Unit {0})) → Bool → Core → Done → Arrays → Arrays → List ℕ → List ℕ → ℕ → Type 0
+Writes does past k r x x′ j j′ used = Proper (whole k x) → (base : ℕ) (w staging : List ℕ)
+    → toldDone Heard.Nothing r x′ w staging j′
+    ≡ asked (check (isNone does) 3 (check past 4 (check (badJournal (length j) used) 6 0))) (levelled (orNothing does)) base (whole k x) w staging j used
 
--- an act without a store came from d to e, and touches no other arrays
-pub record DidNoStore (d e : Device) (touched : Touched) (used : ℕ) (j : List ℕ) : Type 0 where
-  pub act : Act (Unit {0})
-  pub fits : used ≤ length j
-  pub does : Does act d e
-  pub spares : Each (sparing (touchedBy touched)) act
-
-abbrev pub SettlesDoing : Device → Device → ℕ → Acted → List ℕ → List ℕ → Type 0
-SettlesDoing d e used r j j′ = (act : Act (Unit {0})) → Does act d e → (base : ℕ) (w staging : List ℕ)
-    → toldActed r w staging j′ ≡ toldAfter staging used (perform base (lending (length staging)) (levelled act) (worldOf d w j used))
+-- of an act without a store, which came from core k to e
+abbrev pub Stores : Core → Core → Bool → ℕ → Done → List ℕ → List ℕ → Type 0
+Stores k e levels used r j j′ = (x : Arrays) (act : Act (Unit {0})) → Proper (whole k x) → Does act (whole k x) (whole e x) → (levels ≡ false → SameLevels k e)
+    → (base : ℕ) (w staging : List ℕ)
+    → toldDone Heard.Nothing r x w staging j′ ≡ toldAfter staging used (perform base (lending (length staging)) (levelled act) (worldOf (whole k x) w j used))
 
 -- ---- the calls
 

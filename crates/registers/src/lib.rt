@@ -1,12 +1,15 @@
-// The calls on registers and inputs: read, write, inputs, pending, acknowledge. A device goes in by value and comes back with the answer;
-// what is wrong with the arguments is tested in the order of document 01's numbers, before anything is done. What each act touches is
-// compared at its end: the fields of numbers 0 to 27 always, and of the arrays only those that the call can change.
+// The calls on registers and inputs: read, write, inputs, pending, acknowledge. Each stands twice: on a device in parts, where the core goes in by
+// value and the call is lent the arrays that it can read or change (`.._in`); and on a device by value, which it takes apart and puts together.
+// What is wrong with the arguments is tested in the order of document 01's numbers, before anything is done. What an act can have changed is
+// compared at its end: the fields of numbers 0 to 27, and of the arrays those that it is lent.
+use act::Core;
+use act::Done;
 use act::Flow;
 use act::Step;
 use act::Walk;
 use acting::Reached;
 use acting::refused;
-use closing::Touched;
+use closing::Noted;
 use intc::Cell;
 use rules::Acknowledged;
 use rules::Acted;
@@ -17,13 +20,15 @@ use rules::Refusal;
 use rules::Verdict;
 ghost use mathlib.Core.Bool.{true, false};
 ghost use mathlib.Core.Path.{_≡_};
-ghost use Prim.Native.Nat.{suc, _<_};
+ghost use Prim.Native.Nat.{suc, _≤_, _<_};
+ghost use lib.ListN.{length};
+ghost use Rattle.rules.specs.declared.Heard.the-variants as Heard;
 ghost use Rattle.rules.specs.View.{view};
-ghost use Rattle.rules.specs.Calls.{badSize, isNone, check, toldReading, afterRead, write, inputs, pending};
+ghost use Rattle.rules.specs.Calls.{badSize, isNone, check, toldReading, afterRead, write as writeCall, inputs as inputsCall, pending as pendingCall, ack};
 ghost use Rattle.rules.specs.Registers.{inBlocks, blockOf, dmaRead, readIn, dmaWrite, controllerWrite};
 ghost use Rattle.intc.specs.Cells.{reads};
-ghost use Rattle.acting.specs.Ending.{heardBy};
-ghost use Rattle.registers.specs.Asked.{pastEnd, pastPart, readSo, Writes, DidNoStore, SettlesDoing, Made, MadeHeard};
+ghost use Rattle.act.specs.Parts.{Arrays, tabled, counted, taking, Calls};
+ghost use Rattle.registers.specs.Asked.{pastEnd, pastPart, readSo, Writes, Stores, Made, MadeHeard};
 
 // ---- addresses
 
@@ -113,80 +118,106 @@ pub fn read(d: Device, address: u32, size: u32) -> Reading
 
 // ---- write
 
-// A DMA register or the table: no array is compared.
-fn write_dma(d: Device, off: u32, size: u32, value: u32, journal: &mut [u8], used: usize) -> Acted
+// A DMA register or the table. After a refusal the table is as it was.
+fn write_dma(
+    k: Core,
+    off: u32,
+    size: u32,
+    value: u32,
+    table: &mut [u8; 2048],
+    pending: &[u32; 64],
+    journal: &mut [u8],
+    used: usize,
+) -> Done
     requires { ⌜ (off < 0x4000) × (badSize size ≡ false) ⌝ }
-    ensures { λ r. ⌜ Writes (dmaWrite off size value) (pastEnd off size) (view d) used r (now (journal .entry)) (now (journal .exit)) ⌝ }
+    ensures { λ r. ⌜ ((x : Arrays) → Writes (dmaWrite off size value) (pastEnd off size) k r (tabled (counted x (now (pending .entry))) (now (table .entry))) (tabled (counted x (now (pending .entry))) (now (table .exit))) (now (journal .entry)) (now (journal .exit)) used) ⌝ }
 {
     if !dma::edma_known(off, size) {
-        return refused(d, Refusal::Register, used);
+        return refused(k, Refusal::Register, used);
     }
     if past_end(off, size) {
-        return refused(d, Refusal::Crossing, used);
+        return refused(k, Refusal::Crossing, used);
     }
     if asking::bad_journal(journal.len(), used) {
-        return refused(d, Refusal::Journal, used);
+        return refused(k, Refusal::Journal, used);
     }
-    let touched = Touched {
-        busy: false,
-        majors: false,
-        pending: false,
-        levels: false,
-        taken: false,
-    };
-    let scalars = d.scalars;
-    let mut table = d.table;
+    let before = *table;
+    let scalars = k.scalars;
     let begun = Step::Going(Flow { scalars, at: used });
-    let s = dma::edma_write(begun, &mut table, &d.pending, off, size, value, journal);
-    acting::settle(d, acting::put_back(d, s, table), touched, journal, used)
-}
-
-// The end of an act that came to `e` without a store.
-fn stored(d: Device, e: Device, touched: Touched, journal: &mut [u8], used: usize) -> Acted
-    requires { ⌜ DidNoStore (view d) (view e) touched used (now journal) ⌝ }
-    ensures { λ r. ⌜ SettlesDoing (view d) (view e) used r (now (journal .entry)) (now (journal .exit)) ⌝ }
-{
-    let s = Reached {
-        walk: Walk::On(used),
-        device: e,
+    let s = dma::edma_write(begun, table, pending, off, size, value, journal);
+    let r = acting::end_core(k, acting::settle(k, s), false, journal, used);
+    let verdict = r.verdict;
+    let Verdict::Accepted = verdict else {
+        *table = before;
+        return r;
     };
-    acting::settle(d, s, touched, journal, used)
+    r
 }
 
-// A controller's register: the levels of the sources are compared.
+// The end of an act that came to the core `e` without a store, and touched the level bytes or not.
+fn stored(k: Core, e: Core, levels: bool, journal: &mut [u8], used: usize) -> Done
+    requires { ⌜ used ≤ length (now journal) ⌝ }
+    ensures { λ r. ⌜ Stores k e levels used r (now (journal .entry)) (now (journal .exit)) ⌝ }
+{
+    let scalars = e.scalars;
+    let s = acting::settle(e, Step::Going(Flow { scalars, at: used }));
+    acting::end_core(k, s, levels, journal, used)
+}
+
+// A controller's register.
 fn write_controller(
-    d: Device,
+    k: Core,
     c: usize,
     off: u32,
     size: u32,
     value: u32,
     journal: &mut [u8],
     used: usize,
-) -> Acted
+) -> Done
     requires { ⌜ (c < 3) × (badSize size ≡ false) ⌝ }
-    ensures { λ r. ⌜ Writes (controllerWrite c off size value) (pastPart off size) (view d) used r (now (journal .entry)) (now (journal .exit)) ⌝ }
+    ensures { λ r. ⌜ ((x : Arrays) → Writes (controllerWrite c off size value) (pastPart off size) k r x x (now (journal .entry)) (now (journal .exit)) used) ⌝ }
 {
     if past_part(off, size) {
-        return refused(d, Refusal::Crossing, used);
+        return refused(k, Refusal::Crossing, used);
     }
-    let e = intc::intc_write(d, c, off, size, value);
+    let e = intc::intc_write(k, c, off, size, value);
     if !e.known {
-        return refused(d, Refusal::Register, used);
+        return refused(k, Refusal::Register, used);
     }
     if asking::bad_journal(journal.len(), used) {
-        return refused(d, Refusal::Journal, used);
+        return refused(k, Refusal::Journal, used);
     }
-    let touched = Touched {
-        busy: false,
-        majors: false,
-        pending: false,
-        levels: true,
-        taken: false,
-    };
-    stored(d, e.device, touched, journal, used)
+    let core = e.core;
+    stored(k, core, true, journal, used)
 }
 
 // "Register write: full address, size, value."
+pub fn write_in(
+    k: Core,
+    address: u32,
+    size: u32,
+    value: u32,
+    table: &mut [u8; 2048],
+    pending: &[u32; 64],
+    journal: &mut [u8],
+    used: usize,
+) -> Done
+    ensures { λ r. ⌜ ((x : Arrays) → Calls (writeCall address size value) Heard.Nothing k r (tabled (counted x (now (pending .entry))) (now (table .entry))) (tabled (counted x (now (pending .entry))) (now (table .exit))) (now (journal .entry)) (now (journal .exit)) used) ⌝ }
+{
+    if asking::bad_size(size) {
+        return refused(k, Refusal::Size, used);
+    }
+    if !in_blocks(address) {
+        return refused(k, Refusal::Address, used);
+    }
+    let off = address % 0x4000;
+    let block = block_of(address);
+    match block {
+        0 => write_dma(k, off, size, value, table, pending, journal, used),
+        _ => write_controller(k, (block - 1) as usize, off, size, value, journal, used),
+    }
+}
+
 pub fn write(
     d: Device,
     address: u32,
@@ -195,25 +226,47 @@ pub fn write(
     journal: &mut [u8],
     used: usize,
 ) -> Acted
-    ensures { λ r. ⌜ Made (write address size value) (view d) used r (now (journal .entry)) (now (journal .exit)) ⌝ }
+    ensures { λ r. ⌜ Made (writeCall address size value) (view d) used r (now (journal .entry)) (now (journal .exit)) ⌝ }
 {
-    if asking::bad_size(size) {
-        return refused(d, Refusal::Size, used);
-    }
-    if !in_blocks(address) {
-        return refused(d, Refusal::Address, used);
-    }
-    let off = address % 0x4000;
-    let block = block_of(address);
-    match block {
-        0 => write_dma(d, off, size, value, journal, used),
-        _ => write_controller(d, (block - 1) as usize, off, size, value, journal, used),
-    }
+    let mut table = d.table;
+    let pending = d.pending;
+    let r = write_in(
+        act::core_of(d),
+        address,
+        size,
+        value,
+        &mut table,
+        &pending,
+        journal,
+        used,
+    );
+    let mut e = d;
+    e.table = table;
+    act::answer(e, r)
 }
 
 // ---- inputs, pending
 
-// "Device inputs: standing request mask and three line masks": no array is compared.
+// "Device inputs: standing request mask and three line masks".
+pub fn inputs_in(
+    k: Core,
+    standing: u64,
+    lines0: u64,
+    lines1: u64,
+    lines2: u64,
+    pending: &[u32; 64],
+    journal: &mut [u8],
+    used: usize,
+) -> Done
+    ensures { λ r. ⌜ ((x : Arrays) → Calls (inputsCall standing lines0 lines1 lines2) Heard.Nothing k r (counted x (now (pending .entry))) (counted x (now (pending .entry))) (now (journal .entry)) (now (journal .exit)) used) ⌝ }
+{
+    if asking::bad_journal(journal.len(), used) {
+        return refused(k, Refusal::Journal, used);
+    }
+    let e = controllers::with_inputs(k, standing, lines0, lines1, lines2, pending);
+    stored(k, e, false, journal, used)
+}
+
 pub fn inputs(
     d: Device,
     standing: u64,
@@ -223,84 +276,127 @@ pub fn inputs(
     journal: &mut [u8],
     used: usize,
 ) -> Acted
-    ensures { λ r. ⌜ Made (inputs standing lines0 lines1 lines2) (view d) used r (now (journal .entry)) (now (journal .exit)) ⌝ }
+    ensures { λ r. ⌜ Made (inputsCall standing lines0 lines1 lines2) (view d) used r (now (journal .entry)) (now (journal .exit)) ⌝ }
 {
-    if asking::bad_journal(journal.len(), used) {
-        return refused(d, Refusal::Journal, used);
-    }
-    let touched = Touched {
-        busy: false,
-        majors: false,
-        pending: false,
-        levels: false,
-        taken: false,
-    };
-    let given = controllers::with_inputs(d, standing, lines0, lines1, lines2);
-    stored(d, given, touched, journal, used)
+    let pending = d.pending;
+    let r = inputs_in(
+        act::core_of(d),
+        standing,
+        lines0,
+        lines1,
+        lines2,
+        &pending,
+        journal,
+        used,
+    );
+    act::answer(d, r)
 }
 
-// "Pending: stores a 32-bit count for one channel": the pending counts are compared.
-pub fn pending(d: Device, channel: u32, count: u32, journal: &mut [u8], used: usize) -> Acted
-    ensures { λ r. ⌜ Made (pending channel count) (view d) used r (now (journal .entry)) (now (journal .exit)) ⌝ }
+// "Pending: stores a 32-bit count for one channel".
+pub fn pending_in(
+    k: Core,
+    channel: u32,
+    count: u32,
+    pending: &mut [u32; 64],
+    journal: &mut [u8],
+    used: usize,
+) -> Done
+    ensures { λ r. ⌜ ((x : Arrays) → Calls (pendingCall channel count) Heard.Nothing k r (counted x (now (pending .entry))) (counted x (now (pending .exit))) (now (journal .entry)) (now (journal .exit)) used) ⌝ }
 {
     if asking::bad_journal(journal.len(), used) {
-        return refused(d, Refusal::Journal, used);
+        return refused(k, Refusal::Journal, used);
     }
     if 63 < channel {
-        return refused(d, Refusal::Channel, used);
+        return refused(k, Refusal::Channel, used);
     }
-    let touched = Touched {
-        busy: false,
-        majors: false,
-        pending: true,
-        levels: false,
-        taken: false,
+    let before = *pending;
+    pending[channel as usize] = count;
+    let scalars = k.scalars;
+    let s = acting::settle(k, Step::Going(Flow { scalars, at: used }));
+    let core = s.core;
+    let walk = s.walk;
+    let numbers = closing::note_core(acting::begun(walk), k, core, journal);
+    let counts = closing::note_pending(numbers, &before, pending, journal);
+    let r = acting::done(k, s, closing::note_end(counts, used, journal), used);
+    let verdict = r.verdict;
+    let Verdict::Accepted = verdict else {
+        *pending = before;
+        acting::clear(journal, used);
+        return r;
     };
-    let counted = controllers::with_pending(d, channel as usize, count);
-    stored(d, counted, touched, journal, used)
+    r
+}
+
+pub fn pending(d: Device, channel: u32, count: u32, journal: &mut [u8], used: usize) -> Acted
+    ensures { λ r. ⌜ Made (pendingCall channel count) (view d) used r (now (journal .entry)) (now (journal .exit)) ⌝ }
+{
+    let mut counts = d.pending;
+    let r = pending_in(act::core_of(d), channel, count, &mut counts, journal, used);
+    let mut e = d;
+    e.pending = counts;
+    act::answer(e, r)
 }
 
 // ---- acknowledge
 
-// What is heard, if the call is accepted.
-fn heard_by(v: Verdict, h: Heard) -> Heard
-    ensures { λ r. ⌜ r ≡ heardBy v h ⌝ }
-{
-    match v {
-        Verdict::Accepted => h,
-        Verdict::Refused(_) => Heard::Nothing,
-    }
+// What an acknowledge came to besides arrays.
+pub struct Answered {
+    pub done: Done,
+    pub heard: Heard,
 }
 
-// "Acknowledge: `ipl`, any byte." "Each accepted act writes a journal group, an acknowledge that finds nothing too." Taken counts are compared.
+// "Acknowledge: `ipl`, any byte." "Each accepted act writes a journal group, an acknowledge that finds nothing too." Nothing is worked out anew.
+pub fn acknowledge_in(
+    k: Core,
+    ipl: u8,
+    taken: &mut [u64; 192],
+    journal: &mut [u8],
+    used: usize,
+) -> Answered
+    ensures { λ r. ⌜ ((x : Arrays) → Calls (ack ipl) (r .heard) k (r .done) (taking x (now (taken .entry))) (taking x (now (taken .exit))) (now (journal .entry)) (now (journal .exit)) used) ⌝ }
+{
+    if asking::bad_journal(journal.len(), used) {
+        return Answered {
+            done: refused(k, Refusal::Journal, used),
+            heard: Heard::Nothing,
+        };
+    }
+    let before = *taken;
+    let heard = controllers::ack_irq(k, ipl, taken);
+    let s = Reached {
+        walk: Walk::On(used),
+        core: k,
+    };
+    let counts = closing::note_taken(Noted::At(used), &before, taken, journal);
+    let r = acting::done(k, s, closing::note_end(counts, used, journal), used);
+    let verdict = r.verdict;
+    let Verdict::Accepted = verdict else {
+        *taken = before;
+        acting::clear(journal, used);
+        return Answered {
+            done: r,
+            heard: Heard::Nothing,
+        };
+    };
+    Answered { done: r, heard }
+}
+
 pub fn acknowledge(d: Device, ipl: u8, journal: &mut [u8], used: usize) -> Acknowledged
     ensures { λ r. ⌜ MadeHeard ipl (view d) used r (now (journal .entry)) (now (journal .exit)) ⌝ }
 {
-    if asking::bad_journal(journal.len(), used) {
-        return Acknowledged {
-            verdict: Verdict::Refused(Refusal::Journal),
-            heard: Heard::Nothing,
-            used,
-            device: d,
-        };
-    }
-    let touched = Touched {
-        busy: false,
-        majors: false,
-        pending: false,
-        levels: false,
-        taken: true,
-    };
-    let a = controllers::ack_irq(d, ipl);
-    let heard = a.heard;
-    let e = a.device;
-    let r = acting::finish(d, e, touched, journal, used, used);
-    let verdict = r.verdict;
-    let device = r.device;
+    let mut taken = d.taken;
+    let r = acknowledge_in(act::core_of(d), ipl, &mut taken, journal, used);
+    let done = r.done;
+    let heard = r.heard;
+    let mut e = d;
+    e.taken = taken;
+    let a = act::answer(e, done);
+    let verdict = a.verdict;
+    let device = a.device;
     Acknowledged {
         verdict,
-        heard: heard_by(verdict, heard),
-        used: r.used,
+        heard,
+        used: a.used,
         device,
     }
 }

@@ -13,6 +13,7 @@ ghost use lib.ListN.{length, take};
 ghost use Rattle.rules.specs.Carry.{lending};
 ghost use Rattle.rules.specs.Minor.{readUnit, readUnits, readSizes, writeUnits, writeSizes, moveUnequal};
 ghost use Rattle.words.specs.Sizes.{Sized};
+ghost use Rattle.words.specs.Widths.{MemoryWidth};
 ghost use Rattle.act.specs.Worlds.{Walks};
 ghost use Rattle.unequal_sizes.specs.Stages.{Reads, ReadsTo, Writes, Stages};
 
@@ -30,36 +31,14 @@ pub enum Wrote {
 
 // ---- a unit read: it goes behind the `len` bytes that were read before
 
-fn read_unit1(base: u32, window: &[u8], a: u32, staging: &mut [u8], len: usize) -> bool
-    requires { ⌜ len + 1 ≤ length (now staging) ⌝ }
-    ensures { λ r. ⌜ Reads (readUnit 1 a (take len (now (staging .entry)))) base (now (window .entry)) r (take (len + 1) (now (staging .exit))) ⌝ }
+fn read_unit(base: u32, window: &[u8], width: usize, a: u32, staging: &mut [u8], len: usize) -> bool
+    requires { ⌜ (len + width ≤ length (now staging)) × (MemoryWidth width) ⌝ }
+    ensures { λ r. ⌜ Reads (readUnit width a (take len (now (staging .entry)))) base (now (window .entry)) r (take (len + width) (now (staging .exit))) ⌝ }
 {
-    let Place::At(i) = memory::where_is(base, window, a, 1) else {
+    let Place::At(i) = memory::where_is(base, window, a, width) else {
         return false;
     };
-    words::put1(staging, len, words::get1(window, i));
-    true
-}
-
-fn read_unit2(base: u32, window: &[u8], a: u32, staging: &mut [u8], len: usize) -> bool
-    requires { ⌜ len + 2 ≤ length (now staging) ⌝ }
-    ensures { λ r. ⌜ Reads (readUnit 2 a (take len (now (staging .entry)))) base (now (window .entry)) r (take (len + 2) (now (staging .exit))) ⌝ }
-{
-    let Place::At(i) = memory::where_is(base, window, a, 2) else {
-        return false;
-    };
-    words::put2(staging, len, words::get2(window, i));
-    true
-}
-
-fn read_unit4(base: u32, window: &[u8], a: u32, staging: &mut [u8], len: usize) -> bool
-    requires { ⌜ len + 4 ≤ length (now staging) ⌝ }
-    ensures { λ r. ⌜ Reads (readUnit 4 a (take len (now (staging .entry)))) base (now (window .entry)) r (take (len + 4) (now (staging .exit))) ⌝ }
-{
-    let Place::At(i) = memory::where_is(base, window, a, 4) else {
-        return false;
-    };
-    words::put4(staging, len, words::get4(window, i));
+    words::put_width(staging, len, width, words::get_width(window, i, width));
     true
 }
 
@@ -81,7 +60,7 @@ fn read_sizes1(
     let mut len: usize = 0;
     let mut left = count;
     while left != 0 {
-        if !read_unit1(base, window, s, staging, len) {
+        if !read_unit(base, window, 1, s, staging, len) {
             return Read::Outside;
         }
         s = words::modulo_add(s, soff, smod);
@@ -107,7 +86,7 @@ fn read_sizes2(
     let mut len: usize = 0;
     let mut left = count;
     while left != 0 {
-        if !read_unit2(base, window, s, staging, len) {
+        if !read_unit(base, window, 2, s, staging, len) {
             return Read::Outside;
         }
         s = words::modulo_add(s, soff, smod);
@@ -133,7 +112,7 @@ fn read_sizes4(
     let mut len: usize = 0;
     let mut left = count;
     while left != 0 {
-        if !read_unit4(base, window, s, staging, len) {
+        if !read_unit(base, window, 4, s, staging, len) {
             return Read::Outside;
         }
         s = words::modulo_add(s, soff, smod);
@@ -159,7 +138,7 @@ fn read_units4(
     let mut k: u32 = 0;
     while k < count {
         let a = equal_sizes::unit_at(from, k);
-        if !read_unit4(base, window, a, staging, end) {
+        if !read_unit(base, window, 4, a, staging, end) {
             return false;
         }
         end += 4;
@@ -239,7 +218,7 @@ fn write_sizes1(
     let mut left = count;
     while left != 0 {
         let v = words::get1(staging, pos);
-        match equal_sizes::store1(base, window, d, v, journal, end) {
+        match equal_sizes::store(base, window, d, 1, v as u64, journal, end) {
             Walk::On(next) => {
                 end = next;
             }
@@ -274,7 +253,7 @@ fn write_sizes2(
     let mut left = count;
     while left != 0 {
         let v = words::get2(staging, pos);
-        match equal_sizes::store2(base, window, d, v, journal, end) {
+        match equal_sizes::store(base, window, d, 2, v as u64, journal, end) {
             Walk::On(next) => {
                 end = next;
             }
@@ -309,7 +288,7 @@ fn write_sizes4(
     let mut left = count;
     while left != 0 {
         let v = words::get4(staging, pos);
-        match equal_sizes::store4(base, window, d, v, journal, end) {
+        match equal_sizes::store(base, window, d, 4, v as u64, journal, end) {
             Walk::On(next) => {
                 end = next;
             }
@@ -343,7 +322,7 @@ fn write_units4(
     while k < count {
         let b = equal_sizes::unit_at(to, k);
         let v = words::get4(staging, pos + (k * 4) as usize);
-        match equal_sizes::store4(base, window, b, v, journal, end) {
+        match equal_sizes::store(base, window, b, 4, v as u64, journal, end) {
             Walk::On(next) => {
                 end = next;
             }

@@ -1,5 +1,4 @@
 -- `closing::note_scalars` meets its contract: the numbers as a list, before and after. Assumes nothing.
-use mathlib.Core.Bool.{false≢true}
 use mathlib.Core.Path.{sym, ap, _∙_}
 use native.Mathlib.Omega.{arith}
 use borrow.Author.Needs.{needs}
@@ -23,7 +22,7 @@ note-wides-requires : tie.Need-note-wides-requires
 note-wides-requires c κs =
     let b = ap length (c .before .before .before .before .listed .ensures) in
     let a = ap length (c .before .before .before .listed2 .ensures) in
-    record { alike = b ∙ sym a; places = omega (arith, b); spared = λ h. absurd (false≢true (sym h)) }
+    record { alike = b ∙ sym a; places = omega (arith, b) }
 
 same-length : tie.Need-same-length
 same-length c = search needs

@@ -1,6 +1,6 @@
--- `controllers::ack_irq` meets its contract. The act of the rules, with what the callees ensure of each controller. Assumes nothing.
+-- `controllers::ack_irq` meets its contract: the act of the rules, with what the callees ensure of each controller. Assumes nothing.
 use Rattle.controllers.proofs.DeviceLaws.{acknowledge-held}
-use Rattle.rules.proofs.Typed.{sound}
+use Rattle.act.specs.Parts.{taking, whole}
 use borrow.Author.Needs.{needs}
 use Rattle.controllers.proofs.ack_irq.Statement.{statement}
 use Rattle.controllers.proofs.ack_irq.Tie as tie
@@ -27,12 +27,9 @@ hear-requires : tie.Need-hear-requires
 hear-requires c κs = search needs
 
 returns : tie.Need-returns
-returns c =
-    let h2 = c .before in
-    let h1 = h2 .before .before in
-    let h0 = h1 .before .before in
-    let d = h0 .before .before in
-    acknowledge-held (d .args .t1) (sound (d .args .t1) (d .good .0)) _ (h0 .heard-from .ensures .0) (h1 .heard-from2 .ensures .0) (h2 .heard-from3 .ensures .0) _ _ (c .hear .ensures)
+returns c x p =
+    let k = c .before .before .before .before .before .before .before .before .args .t1 in
+    acknowledge-held k (taking x _) (p .sound) _ (c .before .before .before .before .before .before .heard-from .ensures .0) (c .before .before .before .before .heard-from2 .ensures .0) (c .before .before .heard-from3 .ensures .0) _ _ (c .hear .ensures (whole k x))
 
 pub ack-irq-spec : {M : Type 1} → statement M
 ack-irq-spec =

@@ -1,7 +1,7 @@
--- `controllers::with_inputs` meets its contract. The act of the rules, with what the callees ensure of each controller and of the requests.
--- Assumes nothing.
-use Rattle.controllers.proofs.InputLaws.{inputs-held}
-use Rattle.rules.proofs.Typed.{sound}
+-- `controllers::with_inputs` meets its contract: the act of the rules, with what the callees ensure of each controller and of the requests. Assumes nothing.
+use Rattle.controllers.proofs.InputLaws.{inputs-held, inputs-keep, requesting-answers}
+use Rattle.act.specs.Parts.{counted}
+use mathlib.Core.Path.{refl}
 use borrow.Author.Needs.{needs}
 use Rattle.controllers.proofs.with_inputs.Statement.{statement}
 use Rattle.controllers.proofs.with_inputs.Tie as tie
@@ -24,26 +24,27 @@ element-copy-out-given-3 c = search needs
 given-requires-3 : tie.Need-given-requires-3
 given-requires-3 c κs = search needs
 
-element-set-from-x : tie.Need-element-set-from-x
-element-set-from-x c = search needs
+element-set-from-a : tie.Need-element-set-from-a
+element-set-from-a c = search needs
 
-element-set-from-y : tie.Need-element-set-from-y
-element-set-from-y c = search needs
+element-set-from-b : tie.Need-element-set-from-b
+element-set-from-b c = search needs
 
-element-set-from-z : tie.Need-element-set-from-z
-element-set-from-z c = search needs
+element-set-from-c : tie.Need-element-set-from-c
+element-set-from-c c = search needs
 
-requesting-requires : tie.Need-requesting-requires
-requesting-requires c κs = search needs
+waiting-requires : tie.Need-waiting-requires
+waiting-requires c κs = search needs
 
 returns : tie.Need-returns
-returns c =
-    let g2 = c .before in
-    let g1 = g2 .before .before in
-    let g0 = g1 .before .before in
-    let d = g0 .before .before in
-    inputs-held _ _ _ _ (d .before .before .fits .standing .fits) (d .before .before .fits .l0 .fits) (d .before .before .fits .l1 .fits) (d .before .before .fits .l2 .fits) (d .before .before .args .t1) (sound (d .before .before .args .t1) (d .before .before .good .0)) _
-    (g0 .before .before .given .ensures) (g1 .before .before .given2 .ensures) (g2 .before .before .given3 .ensures) (c .before .requesting .ensures)
+returns c x p =
+    let k = c .before .before .before .before .before .before .before .before .before .before .args .t1 in
+    let f = c .before .before .before .before .before .before .before .before .before .before .fits in
+    record {
+      does = inputs-held _ _ _ _ (f .standing .fits) (f .l0 .fits) (f .l1 .fits) (f .l2 .fits) k (counted x _) (p .sound) _
+          (c .before .before .before .before .before .before .before .before .given .ensures) (c .before .before .before .before .before .before .given2 .ensures) (c .before .before .before .before .given3 .ensures) (requesting-answers _ (c .before .waiting .ensures));
+      levels = inputs-keep k _ _ _ _ (p .sound .three) (c .before .before .before .before .before .before .before .before .given .ensures) (c .before .before .before .before .before .before .given2 .ensures) (c .before .before .before .before .given3 .ensures) refl;
+    }
 
 pub with-inputs-spec : {M : Type 1} → statement M
 with-inputs-spec =
@@ -55,8 +56,8 @@ with-inputs-spec =
     given-requires-2
     element-copy-out-given-3
     given-requires-3
-    element-set-from-x
-    element-set-from-y
-    element-set-from-z
-    requesting-requires
+    element-set-from-a
+    element-set-from-b
+    element-set-from-c
+    waiting-requires
     returns)

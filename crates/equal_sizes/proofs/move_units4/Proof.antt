@@ -32,8 +32,8 @@ unit-at-requires c κs = search needs
 unit-at-requires-2 : tie.Need-unit-at-requires-2 Inv-loop μ-loop
 unit-at-requires-2 c κs = search needs
 
-move-unit4-requires : tie.Need-move-unit4-requires Inv-loop μ-loop
-move-unit4-requires c κs = search needs
+move-unit-requires : tie.Need-move-unit-requires Inv-loop μ-loop
+move-unit-requires c κs = search needs
 
 enum-known-next : tie.Need-enum-known-next Inv-loop μ-loop
 enum-known-next c = search needs
@@ -53,7 +53,7 @@ returns c =
     let at = c .before .before .before .before .before .before .before .before .before .before .before .before .before in
     let a = at .before .before .before .args in
     let turn = units-on (a .count) (at .loop .k) 4 (a .from) (a .to) (c .before .before .before .before .before .before .before .before .before .before .before .before .loop-test .taken) (c .before .before .before .before .before .before .before .before .before .before .before .unit-at .ensures) (c .before .before .before .before .before .before .before .before .before .before .unit-at2 .ensures) in
-    turn-off (a .base) _ (a .at) _ _ (moveUnit 4 (c .before .before .before .before .before .before .before .before .before .before .before .unit-at .result) (c .before .before .before .before .before .before .before .before .before .before .unit-at2 .result)) _ turn _ _ (at .loop .end) (at .loop .inv .3) _ _ (c .before .before .before .before .before .before .before .move-unit4 .ensures) (c .before .n .given .1)
+    turn-off (a .base) _ (a .at) _ _ (moveUnit 4 (c .before .before .before .before .before .before .before .before .before .before .before .unit-at .result) (c .before .before .before .before .before .before .before .before .before .before .unit-at2 .result)) _ turn _ _ (at .loop .end) (at .loop .inv .3) _ _ (c .before .before .before .before .before .before .before .move-unit .ensures) (c .before .n .given .1)
 
 add-k : tie.Need-add-k Inv-loop μ-loop
 add-k c = search needs
@@ -69,7 +69,7 @@ loop-again c =
       omega arith,
       omega arith,
       omega arith,
-      turn-on (a .base) _ (a .at) _ _ (moveUnit 4 (c .before .before .before .before .before .before .before .before .before .before .before .unit-at .result) (c .before .before .before .before .before .before .before .before .before .before .unit-at2 .result)) _ turn _ _ (at .loop .end) (at .loop .inv .3) _ _ (c .before .before .before .before .before .before .before .move-unit4 .ensures) (c .before .next .given .1),
+      turn-on (a .base) _ (a .at) _ _ (moveUnit 4 (c .before .before .before .before .before .before .before .before .before .before .before .unit-at .result) (c .before .before .before .before .before .before .before .before .before .before .unit-at2 .result)) _ turn _ _ (at .loop .end) (at .loop .inv .3) _ _ (c .before .before .before .before .before .before .before .move-unit .ensures) (c .before .next .given .1),
     )
 
 same-length-3 : tie.Need-same-length-3 Inv-loop μ-loop
@@ -93,7 +93,7 @@ move-units4-spec =
     loop-holds
     unit-at-requires
     unit-at-requires-2
-    move-unit4-requires
+    move-unit-requires
     enum-known-next
     enum-known-n
     same-length

@@ -1,8 +1,7 @@
--- `intc::intc_write` meets its contract. What `controller_written` ensures, of the device around the controller. Assumes nothing.
-use native.Mathlib.Omega.{arith}
-use Rattle.intc.proofs.WriteLaws.{written-held}
+-- `intc::intc_write` meets its contract: what 'controller_written' ensures, of the device around the controller. Assumes nothing.
 use Rattle.intc.specs.Writes.{writeTo}
-use Rattle.rules.proofs.Typed.{sound}
+use Rattle.intc.proofs.WriteLaws.{written-held}
+use native.Mathlib.Omega.{arith}
 use borrow.Author.Needs.{needs}
 use Rattle.intc.proofs.intc_write.Statement.{statement}
 use Rattle.intc.proofs.intc_write.Tie as tie
@@ -16,16 +15,16 @@ element-copy-out-controller-written c = search needs
 controller-written-requires : tie.Need-controller-written-requires
 controller-written-requires c κs = search needs
 
-mul-k : tie.Need-mul-k
-mul-k c = search needs
+mul-written : tie.Need-mul-written
+mul-written c = search needs
 
-element-set-from-k : tie.Need-element-set-from-k
-element-set-from-k c = search needs
+element-set-from-written : tie.Need-element-set-from-written
+element-set-from-written c = search needs
 
 returns : tie.Need-returns
-returns c =
+returns c x p =
     let st = c .before .before .before in
-    written-held (writeTo (st .args .off) (st .args .size) (st .args .v)) (st .args .c) (st .args .t1) _ _ (omega (arith, sound (st .args .t1) (st .good .0) .three)) (c .before .controller-written .ensures)
+    written-held (writeTo (st .args .off) (st .args .size) (st .args .v)) (st .args .c) (st .args .t1) x _ _ (omega (arith, p .sound .three)) (c .before .controller-written .ensures)
 
 pub intc-write-spec : {M : Type 1} → statement M
 intc-write-spec =
@@ -34,6 +33,6 @@ intc-write-spec =
     mul-controller-written
     element-copy-out-controller-written
     controller-written-requires
-    mul-k
-    element-set-from-k
+    mul-written
+    element-set-from-written
     returns)

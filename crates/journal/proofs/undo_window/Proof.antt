@@ -2,6 +2,7 @@
 use Rattle.journal.proofs.UndoLaws.{undo-turn, undo-none}
 use Rattle.journal.specs.Undoing.{undoLines}
 use lib.ListN.{length, drop}
+use borrow.Author.Needs.{needs}
 use native.Mathlib.Omega.{arith}
 use native.Mathlib.Nat.{sub-zero}
 use Prim.Native.Nat.{_-_, _≤_}
@@ -16,8 +17,8 @@ Inv-loop base window₀ journal from to count done₀ window done =
 abbrev μ-loop : tie.MeasureT-loop
 μ-loop base window₀ journal from to count done₀ window done = count - done
 
-sub-count : tie.Need-sub-count Inv-loop μ-loop
-sub-count c = omega arith
+span-requires : tie.Need-span-requires Inv-loop μ-loop
+span-requires c κs = search needs
 
 loop-holds : tie.Need-loop-holds Inv-loop μ-loop
 loop-holds c = (omega arith, rw sub-zero, refl)
@@ -53,7 +54,7 @@ same-length : tie.Need-same-length Inv-loop μ-loop
 same-length c = omega arith
 
 returns : tie.Need-returns Inv-loop μ-loop
-returns c = sym (undo-none _ _ _ _ (omega arith)) ∙ c .before .loop .inv .1
+returns c = rw (← c .before .before .span .ensures) (sym (undo-none _ _ _ _ (omega arith)) ∙ c .before .loop .inv .1)
 
 pub undo-window-spec : {M : Type 1} → statement M
 undo-window-spec =
@@ -61,7 +62,7 @@ undo-window-spec =
     (tie.spec
     Inv-loop
     μ-loop
-    sub-count
+    span-requires
     loop-holds
     sub-last
     sub-last-2

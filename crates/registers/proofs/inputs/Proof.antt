@@ -1,52 +1,30 @@
--- `registers::inputs` meets its contract. Assumes nothing.
-use Rattle.rules.specs.View.{view}
-use Rattle.registers.proofs.Laws.{used-fits, refuses, accepts, asked-after}
-use Rattle.rules.proofs.Spares.{inputs-spare}
-use Rattle.rules.specs.declared.Refusal.the-variants as Refusal
-use Rattle.rules.specs.Calls.{inputs, wrong, check, stagingAfter, actOf}
-use mathlib.Core.Path.{refl, sym, _∙_}
+-- `registers::inputs` meets its contract, from that of its parts. Assumes nothing.
+use Rattle.registers.proofs.Laws.{made-whole}
+use Rattle.act.specs.Parts.{arraysOf}
+use Rattle.rules.proofs.Each.{typed-proper}
+use Rattle.rules.specs.Calls.{inputs}
 use borrow.Author.Needs.{needs}
 use Rattle.registers.proofs.inputs.Statement.{statement}
 use Rattle.registers.proofs.inputs.Tie as tie
 
-bad-journal-requires : tie.Need-bad-journal-requires
-bad-journal-requires c κs = search needs
+core-of-requires : tie.Need-core-of-requires
+core-of-requires c κs = search needs
 
-refused-requires : tie.Need-refused-requires
-refused-requires c κs = search needs
+inputs-in-requires : tie.Need-inputs-in-requires
+inputs-in-requires c κs = search needs
 
-returns : tie.Need-returns
-unfolding wrong check stagingAfter
-returns c base w staging =
-    let a = c .before .before .before .before .args in
-    refuses _ base (a .d) w staging _ (a .used) Refusal.Journal (c .refused .ensures) (rw (sym (c .before .before .bad-journal .ensures) ∙ c .before .if1 .taken))
-    ∙ asked-after (inputs (a .standing) (a .lines0) (a .lines1) (a .lines2)) base (view (a .d)) w staging _ (a .used) refl
-
-with-inputs-requires : tie.Need-with-inputs-requires
-with-inputs-requires c κs = search needs
-
-stored-requires : tie.Need-stored-requires
-stored-requires c κs =
-    record { act = _; fits = used-fits _ _ (c .before .before .before .bad-journal .ensures) (c .before .before .if1 .left); does = c .before .with-inputs .ensures; spares = inputs-spare _ _ _ _ }
+answer-requires : tie.Need-answer-requires
+answer-requires c κs = search needs
 
 same-length : tie.Need-same-length
 same-length c = search needs
 
-returns-2 : tie.Need-returns-2
-unfolding wrong check stagingAfter actOf
-returns-2 c base w staging =
-    let a = c .before .before .before .before .before .before .before .before .args in
-    accepts _ base (view (a .d)) w staging _ (a .used) (rw (sym (c .before .before .before .before .before .before .bad-journal .ensures) ∙ c .before .before .before .before .before .if1 .left)) (c .before .before .stored .ensures _ (c .before .before .before .before .with-inputs .ensures) base w staging)
-    ∙ asked-after (inputs (a .standing) (a .lines0) (a .lines1) (a .lines2)) base (view (a .d)) w staging _ (a .used) refl
+returns : tie.Need-returns
+returns c base w staging =
+    let a = c .before .before .before .before .before .before .before .before .before .args in
+    made-whole (inputs (a .standing) (a .lines0) (a .lines1) (a .lines2)) base (a .d) (arraysOf (a .d)) w staging _ _ (a .used) _ _ (c .before .before .before .before .before .before .core-of .ensures)
+    (c .before .before .before .inputs-in .ensures (arraysOf (a .d)) (rw (c .before .before .before .before .before .before .core-of .ensures) (typed-proper (a .d) (c .before .before .before .before .before .before .before .before .before .good .0))) base w staging) (c .answer .ensures)
 
 pub inputs-spec : {M : Type 1} → statement M
 inputs-spec =
-    tie.close
-    (tie.spec
-    bad-journal-requires
-    refused-requires
-    returns
-    with-inputs-requires
-    stored-requires
-    same-length
-    returns-2)
+    tie.close (tie.spec core-of-requires inputs-in-requires answer-requires same-length returns)

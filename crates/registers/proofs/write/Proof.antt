@@ -1,91 +1,30 @@
--- `registers::write` meets its contract. Assumes nothing.
-use Rattle.rules.specs.View.{view}
-use Rattle.registers.proofs.Laws.{write-no, wrong-size, wrong-address, write-dma-after, write-controller-after}
-use Rattle.rules.specs.declared.Refusal.the-variants as Refusal
-use Rattle.rules.specs.Registers.{blockOf}
-use borrow.Author.Tests.{not-true, not-false}
-use native.Mathlib.Omega.{arith}
-use Prim.Native.Nat.{suc, _-_}
-use mathlib.Core.Path.{_≡_, sym, _∙_}
+-- `registers::write` meets its contract, from that of its parts. Assumes nothing.
+use Rattle.registers.proofs.Laws.{made-whole}
+use Rattle.act.specs.Parts.{arraysOf, tabled}
+use Rattle.rules.proofs.Each.{typed-proper}
+use Rattle.rules.specs.Calls.{write}
 use borrow.Author.Needs.{needs}
 use Rattle.registers.proofs.write.Statement.{statement}
 use Rattle.registers.proofs.write.Tie as tie
 
-bad-size-requires : tie.Need-bad-size-requires
-bad-size-requires c κs = search needs
+core-of-requires : tie.Need-core-of-requires
+core-of-requires c κs = search needs
 
-refused-requires : tie.Need-refused-requires
-refused-requires c κs = search needs
+write-in-requires : tie.Need-write-in-requires
+write-in-requires c κs = search needs
 
-returns : tie.Need-returns
-returns c base w staging =
-    let a = c .before .before .before .before .args in
-    write-no (a .address) (a .size) (a .value) base (a .d) w staging (a .journal .now) (a .used) Refusal.Size (c .refused .ensures)
-    (wrong-size (a .address) (a .size) (a .value) base (view (a .d)) w staging (a .journal .now) (a .used) (sym (c .before .before .bad-size .ensures) ∙ c .before .if1 .taken))
-
-in-blocks-requires : tie.Need-in-blocks-requires
-in-blocks-requires c κs = search needs
-
-refused-requires-2 : tie.Need-refused-requires-2
-refused-requires-2 c κs = search needs
-
-returns-2 : tie.Need-returns-2
-returns-2 c base w staging =
-    let a = c .before .before .before .before .before .before .args in
-    write-no (a .address) (a .size) (a .value) base (a .d) w staging (a .journal .now) (a .used) Refusal.Address (c .refused2 .ensures)
-    (wrong-address (a .address) (a .size) (a .value) base (view (a .d)) w staging (a .journal .now) (a .used) (sym (c .before .before .before .before .bad-size .ensures) ∙ c .before .before .before .if1 .left) (sym (c .before .before .in-blocks .ensures) ∙ not-true _ (c .before .if2 .taken)))
-
-block-of-requires : tie.Need-block-of-requires
-block-of-requires c κs = sym (c .before .in-blocks .ensures) ∙ not-false _ (c .if2 .left)
-
-write-dma-requires : tie.Need-write-dma-requires
-write-dma-requires c κs = (omega arith, sym (c .before .before .before .before .before .before .bad-size .ensures) ∙ c .before .before .before .before .before .if1 .left)
-
-sub-write-controller : tie.Need-sub-write-controller
-sub-write-controller c = search needs
-
-cast-write-controller : tie.Need-cast-write-controller
-cast-write-controller c = search needs
-
-write-controller-requires : tie.Need-write-controller-requires
-write-controller-requires c κs = (omega (arith, c .before .before .block-of .ensures .1, c .before .match .rest), sym (c .before .before .before .before .before .before .bad-size .ensures) ∙ c .before .before .before .before .before .if1 .left)
+answer-requires : tie.Need-answer-requires
+answer-requires c κs = search needs
 
 same-length : tie.Need-same-length
 same-length c = search needs
 
-returns-3 : tie.Need-returns-3
-returns-3 c base w staging =
+returns : tie.Need-returns
+returns c base w staging =
     let a = c .before .before .before .before .before .before .before .before .before .before .before .args in
-    c .before .before .write-dma .ensures base w staging
-    ∙ write-dma-after (a .address) (a .size) (a .value) base (view (a .d)) w staging (a .journal .now) (a .used) (sym (c .before .before .before .before .before .before .before .before .before .bad-size .ensures) ∙ c .before .before .before .before .before .before .before .before .if1 .left) (sym (c .before .before .before .before .before .before .before .in-blocks .ensures) ∙ not-false _ (c .before .before .before .before .before .before .if2 .left)) (sym (c .before .before .before .before .before .block-of .ensures .0) ∙ c .before .before .before .before .match .keys1)
-
-same-length-2 : tie.Need-same-length-2
-same-length-2 c = search needs
-
-returns-4 : tie.Need-returns-4
-returns-4 c base w staging =
-    let a = c .before .before .before .before .before .before .before .before .before .before .before .args in
-    let k = c .before .before .before .before .before .block-of .result in
-    let z : blockOf (a .address) ≡ suc (k - 1) = omega (arith, c .before .before .before .before .before .block-of .ensures .0, c .before .before .before .before .match .rest) in
-    c .before .before .write-controller .ensures base w staging
-    ∙ write-controller-after (a .address) (a .size) (a .value) base (view (a .d)) w staging (a .journal .now) (a .used) (sym (c .before .before .before .before .before .before .before .before .before .bad-size .ensures) ∙ c .before .before .before .before .before .before .before .before .if1 .left) (sym (c .before .before .before .before .before .before .before .in-blocks .ensures) ∙ not-false _ (c .before .before .before .before .before .before .if2 .left)) (k - 1) z
+    made-whole (write (a .address) (a .size) (a .value)) base (a .d) (tabled (arraysOf (a .d)) _) w staging _ _ (a .used) _ _ (c .before .before .before .before .before .before .before .core-of .ensures)
+    (c .before .before .before .write-in .ensures (arraysOf (a .d)) (rw (c .before .before .before .before .before .before .before .core-of .ensures) (typed-proper (a .d) (c .before .before .before .before .before .before .before .before .before .before .before .good .0))) base w staging) (c .answer .ensures)
 
 pub write-spec : {M : Type 1} → statement M
 write-spec =
-    tie.close
-    (tie.spec
-    bad-size-requires
-    refused-requires
-    returns
-    in-blocks-requires
-    refused-requires-2
-    returns-2
-    block-of-requires
-    write-dma-requires
-    sub-write-controller
-    cast-write-controller
-    write-controller-requires
-    same-length
-    returns-3
-    same-length-2
-    returns-4)
+    tie.close (tie.spec core-of-requires write-in-requires answer-requires same-length returns)

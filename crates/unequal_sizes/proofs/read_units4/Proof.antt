@@ -28,8 +28,8 @@ loop-holds c = (omega arith, refl, omega arith, λ lent d j e. rw sub-zero)
 unit-at-requires : tie.Need-unit-at-requires Inv-loop μ-loop
 unit-at-requires c κs = search needs
 
-read-unit4-requires : tie.Need-read-unit4-requires Inv-loop μ-loop
-read-unit4-requires c κs = search needs
+read-unit-requires : tie.Need-read-unit-requires Inv-loop μ-loop
+read-unit-requires c κs = search needs
 
 same-length : tie.Need-same-length Inv-loop μ-loop
 same-length c = search needs
@@ -39,7 +39,7 @@ returns c lent d j e =
     let at = c .before .before .before .before .before .before .before in
     let a = at .before .before .before .args in
     let turn = reads-on (a .count) (at .loop .k) 4 (a .from) (take (at .loop .end) (at .loop .staging)) (c .before .before .before .before .before .before .loop-test .taken) (c .before .before .before .before .before .unit-at .ensures) in
-    none-read _ _ (read-off (a .base) (a .window .now) _ _ _ turn (at .loop .inv .3) _ (not-true _ (c .if1 .taken)) (c .before .before .before .read-unit4 .ensures) lent d j e)
+    none-read _ _ (read-off (a .base) (a .window .now) _ _ _ turn (at .loop .inv .3) _ (not-true _ (c .if1 .taken)) (c .before .before .before .read-unit .ensures) lent d j e)
 
 add-end : tie.Need-add-end Inv-loop μ-loop
 add-end c = search needs
@@ -55,7 +55,7 @@ loop-again c =
     let at = c .before .before .before .before .before .before .before in
     let a = at .before .before .before .args in
     let turn = reads-on (a .count) (at .loop .k) 4 (a .from) (take (at .loop .end) (at .loop .staging)) (c .before .before .before .before .before .before .loop-test .taken) (c .before .before .before .before .before .unit-at .ensures) in
-    (omega arith, omega arith, omega arith, read-on (a .base) (a .window .now) _ _ _ turn (at .loop .inv .3) _ (not-false _ (c .if1 .left)) (c .before .before .before .read-unit4 .ensures))
+    (omega arith, omega arith, omega arith, read-on (a .base) (a .window .now) _ _ _ turn (at .loop .inv .3) _ (not-false _ (c .if1 .left)) (c .before .before .before .read-unit .ensures))
 
 same-length-2 : tie.Need-same-length-2 Inv-loop μ-loop
 same-length-2 c = search needs
@@ -75,7 +75,7 @@ read-units4-spec =
     μ-loop
     loop-holds
     unit-at-requires
-    read-unit4-requires
+    read-unit-requires
     same-length
     returns
     add-end

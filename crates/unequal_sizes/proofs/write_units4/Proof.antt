@@ -41,8 +41,11 @@ add-get4 c = search needs
 get4-requires : tie.Need-get4-requires Inv-loop μ-loop
 get4-requires c κs = search needs
 
-store4-requires : tie.Need-store4-requires Inv-loop μ-loop
-store4-requires c κs = search needs
+cast-store : tie.Need-cast-store Inv-loop μ-loop
+cast-store c = search needs
+
+store-requires : tie.Need-store-requires Inv-loop μ-loop
+store-requires c κs = search needs
 
 enum-known-next : tie.Need-enum-known-next Inv-loop μ-loop
 enum-known-next c = search needs
@@ -62,7 +65,7 @@ returns c =
     let at = c .before .before .before .before .before .before .before .before .before .before .before .before .before in
     let a = at .before .before .before .before .args in
     let turn = writes-on (a .count) (at .loop .k) 4 (a .to) (a .staging .now) (a .pos) (c .before .before .before .before .before .before .before .before .before .before .before .before .loop-test .taken) (c .before .before .before .before .before .before .before .before .before .before .before .unit-at .ensures) (c .before .before .before .before .before .before .before .before .before .before .get4 .ensures) in
-    turn-off (a .base) _ (a .at) _ _ _ _ turn _ _ (at .loop .end) (at .loop .inv .3) _ _ (c .before .before .before .before .before .before .before .store4 .ensures) (c .before .n .given .1)
+    turn-off (a .base) _ (a .at) _ _ _ _ turn _ _ (at .loop .end) (at .loop .inv .3) _ _ (c .before .before .before .before .before .before .before .store .ensures) (c .before .n .given .1)
 
 add-k : tie.Need-add-k Inv-loop μ-loop
 add-k c = search needs
@@ -78,7 +81,7 @@ loop-again c =
       omega arith,
       omega arith,
       omega arith,
-      turn-on (a .base) _ (a .at) _ _ _ _ turn _ _ (at .loop .end) (at .loop .inv .3) _ _ (c .before .before .before .before .before .before .before .store4 .ensures) (c .before .next .given .1),
+      turn-on (a .base) _ (a .at) _ _ _ _ turn _ _ (at .loop .end) (at .loop .inv .3) _ _ (c .before .before .before .before .before .before .before .store .ensures) (c .before .next .given .1),
     )
 
 same-length-3 : tie.Need-same-length-3 Inv-loop μ-loop
@@ -105,7 +108,8 @@ write-units4-spec =
     cast-get4
     add-get4
     get4-requires
-    store4-requires
+    cast-store
+    store-requires
     enum-known-next
     enum-known-n
     same-length
