@@ -24,7 +24,7 @@ use Rattle.rules.specs.declared.Tcd.{Tcd}
 use Rattle.rules.proofs.BytesLaws.{length-bytes}
 use Rattle.rules.proofs.Cut.{splice-cut}
 use Rattle.rules.proofs.Steps.{andThen, go-bind, go-then, in-table, fetch-inside, store-does, store-refused, store-no-room}
-use Rattle.act.specs.Worlds.{world, told, walked, on}
+use Rattle.act.specs.Worlds.{world, cameTo, walked, on}
 use Rattle.act.specs.declared.Flow.{Flow}
 use Rattle.act.specs.declared.Step.{Step}
 use Rattle.act.specs.declared.Step.the-variants.{Going, Refused}
@@ -57,19 +57,19 @@ module _ (base : ℕ) (lent : Lent) where
 
   -- a refused step stays
   pub stays : (m : Act (Unit {0})) {s : Step} {r : Refusal} {c : Flow} (d : Device) (w j t l : List ℕ) → s ≡ Refused r c
-      → told s d w j t l ≡ on base lent m (told s d w j t l)
-  unfolding on told
+      → cameTo s d w j t l ≡ on base lent m (cameTo s d w j t l)
+  unfolding on cameTo
   stays m d w j t l e = rw e
 
   -- whatever is to be done
   pub stays-so : {A : Type 0} (x y : Act A) {s : Step} {r : Refusal} {c : Flow} (d : Device) (w j t l : List ℕ) → s ≡ Refused r c
-      → on base lent x (told s d w j t l) ≡ on base lent y (told s d w j t l)
-  unfolding on told
+      → on base lent x (cameTo s d w j t l) ≡ on base lent y (cameTo s d w j t l)
+  unfolding on cameTo
   stays-so x y d w j t l e = rw e
 
-  -- the step that a match told
+  -- the step that a match cameTo
   pub told-so : {A : Type 0} (x : Act A) {s s′ : Step} (d : Device) (w j t l : List ℕ) → s ≡ s′
-      → on base lent x (told s′ d w j t l) ≡ on base lent x (told s d w j t l)
+      → on base lent x (cameTo s′ d w j t l) ≡ on base lent x (cameTo s d w j t l)
   told-so x d w j t l e = rw e
 
   -- ---- choices
@@ -79,10 +79,10 @@ module _ (base : ℕ) (lent : Lent) where
   unfolding when
   passed b m o e = rw (e, on-nothing o)
 
-  -- the same of the step that a match told
+  -- the same of the step that a match cameTo
   pub skips : (d : Device) {s : Step} (c : Flow) (w j t l : List ℕ) → s ≡ Going c → (b : Bool) (m : Act (Unit {0})) → b ≡ false
-      → told (Going c) d w j t l ≡ on base lent (when b m) (told s d w j t l)
-  skips d c w j t l going b m e = rw going (passed b m (told (Going c) d w j t l) e)
+      → cameTo (Going c) d w j t l ≡ on base lent (when b m) (cameTo s d w j t l)
+  skips d c w j t l going b m e = rw going (passed b m (cameTo (Going c) d w j t l) e)
 
   -- and one that is not left out
   pub taken : (b : Bool) (m : Act (Unit {0})) {r : Out (Unit {0})} (o : Out (Unit {0})) → b ≡ true → r ≡ on base lent m o → r ≡ on base lent (when b m) o
@@ -100,14 +100,14 @@ module _ (base : ℕ) (lent : Lent) where
 
 module _ (base : ℕ) (lent : Lent) where
   pub fetched : (s : Step) (d : Device) (w j t l : List ℕ) {A : Type 0} (place n : ℕ) (k : List ℕ → Act A) → place + n ≤ length t
-      → on base lent (fetch table place n >>= k) (told s d w j t l) ≡ on base lent (k (part t place n)) (told s d w j t l)
-  unfolding on told fetch _>>=_ Carry·fetched bytesOf indexOf
+      → on base lent (fetch table place n >>= k) (cameTo s d w j t l) ≡ on base lent (k (part t place n)) (cameTo s d w j t l)
+  unfolding on cameTo fetch _>>=_ Carry·fetched bytesOf indexOf
   fetched (Going c) d w j t l place n k h = fetch-inside base lent table place n k (world d c w j t l) (in-table base place n (world d c w j t l .now) h)
   fetched (Refused r c) d w j t l place n k h = refl
 
   -- a descriptor
   pub described : (s : Step) (d : Device) (w j t l : List ℕ) {A : Type 0} (ch : ℕ) (k : Tcd → Act A) {x : Tcd} → x ≡ tcdOf (part t (32 * ch) 32) → 32 * ch + 32 ≤ length t
-      → on base lent (k x) (told s d w j t l) ≡ on base lent (descriptor ch >>= k) (told s d w j t l)
+      → on base lent (k x) (cameTo s d w j t l) ≡ on base lent (descriptor ch >>= k) (cameTo s d w j t l)
   unfolding descriptor fetch _>>=_
   described s d w j t l ch k e h = rw e (sym (fetched s d w j t l (32 * ch) 32 (λ b. k (tcdOf b)) h))
 
@@ -115,14 +115,14 @@ module _ (base : ℕ) (lent : Lent) where
 
 module _ (base : ℕ) (lent : Lent) (d : Device) {s : Step} (c : Flow) (w j t l : List ℕ) (going : s ≡ Going c) (g : ℕ → ℕ) where
   pub scalar-changed : (i : ℕ) {v : ℕ} (n : Scalars) → viewScalars n ≡ set (viewScalars (c .scalars)) i v → v ≡ g (getD (viewScalars (c .scalars)) i 0) → v < 2 ^ getD scalarBits i 64
-      → told (Going (record { scalars = n; at = c .at })) d w j t l ≡ on base lent (change (SCALAR i) g) (told s d w j t l)
-  unfolding told on go change bitsOf withDevice
+      → cameTo (Going (record { scalars = n; at = c .at })) d w j t l ≡ on base lent (change (SCALAR i) g) (cameTo s d w j t l)
+  unfolding cameTo on go change bitsOf withDevice
   scalar-changed i n p e h = rw (going, p, ← e, mod-eq-of-lt h)
 
   -- of a function that hands on the step it was given
   pub majors-changed : (ch : ℕ) {v : ℕ} → v ≡ g (getD l ch 0) → v < 2 ^ 64
-      → told s d w j t (set l ch v) ≡ on base lent (change (MAJORS ch) g) (told s d w j t l)
-  unfolding told on go change bitsOf withDevice
+      → cameTo s d w j t (set l ch v) ≡ on base lent (change (MAJORS ch) g) (cameTo s d w j t l)
+  unfolding cameTo on go change bitsOf withDevice
   majors-changed ch e h = rw (going, ← e, mod-eq-of-lt h)
 
 -- ---- the journal, one record longer
@@ -161,15 +161,15 @@ module _ (base : ℕ) (lent : Lent) (d : Device) {s : Step} (c : Flow) (w j t l 
     here : there base table place width (world d c w j t l .now) ≡ true
     here = in-table base place width (world d c w j t l .now) fits
 
-    pub table-full : length j < c .at + 16 → told (Refused Refusal.Room c) d w j t l ≡ on base lent (store table place width value) (told s d w j t l)
-    unfolding told on
+    pub table-full : length j < c .at + 16 → cameTo (Refused Refusal.Room c) d w j t l ≡ on base lent (store table place width value) (cameTo s d w j t l)
+    unfolding cameTo on
     table-full h = rw going (sym (store-no-room base lent (world d c w j t l) table place width value here fair (no-room j (c .at) h)))
 
     pub table-done : c .at + 16 ≤ length j → {old : ℕ} {t′ j′ : List ℕ} {c′ : Flow}
         → old ≡ number (part t place width) → t′ ≡ splice t place (bytes width value) → j′ ≡ splice j (c .at) (line 1 width place old)
         → c′ ≡ record { scalars = c .scalars; at = c .at + 16 }
-        → told (Going c′) d w j′ t′ l ≡ on base lent (store table place width value) (told s d w j t l)
-    unfolding told on recorded stored withBytesOf bytesOf indexOf Carry·fetched lineOf kindOf
+        → cameTo (Going c′) d w j′ t′ l ≡ on base lent (store table place width value) (cameTo s d w j t l)
+    unfolding cameTo on recorded stored withBytesOf bytesOf indexOf Carry·fetched lineOf kindOf
     table-done h p q r e =
         let L : List ℕ = line 1 width place (number (part t place width)) in
         let n : length L ≡ 16 = length-line 1 width place (number (part t place width)) in

@@ -1,3 +1,4 @@
 pub mod Worlds
 pub mod Does
 pub mod Parts
+pub mod Lent

@@ -7,7 +7,6 @@ use lib.ListN.{getD}
 use Rattle.rules.specs.Calls.{Told, told, Asked, verdictNumber, after}
 use Rattle.rules.specs.State.{Controller, Device}
 use Rattle.rules.specs.View.{viewController, view}
-use Rattle.rules.specs.declared.Controller.{Controller as HeldController}
 use Rattle.rules.specs.declared.Device.{Device as HeldDevice}
 use Rattle.rules.specs.declared.Heard.{Heard}
 use Rattle.rules.proofs.Each.{Proper}

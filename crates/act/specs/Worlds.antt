@@ -35,9 +35,9 @@ abbrev pub walkOf : Step → Walk
 walkOf (Going c) = On (c .at)
 walkOf (Refused r c) = Off r (c .at)
 
-unfoldable pub told : Step → Device → List ℕ → List ℕ → List ℕ → List ℕ → Out (Unit {0})
-told (Going c) d w j t m = ok tt (world d c w j t m)
-told (Refused r c) d w j t m = no (refusalNumber r) (world d c w j t m)
+unfoldable pub cameTo : Step → Device → List ℕ → List ℕ → List ℕ → List ℕ → Out (Unit {0})
+cameTo (Going c) d w j t m = ok tt (world d c w j t m)
+cameTo (Refused r c) d w j t m = no (refusalNumber r) (world d c w j t m)
 
 unfoldable pub walked : Walk → Device → List ℕ → List ℕ → Out (Unit {0})
 walked (On e) d w j = ok tt (worldOf d w j e)
@@ -52,27 +52,27 @@ on base lent m (no n u) = no n u
 
 -- of a function that is lent journal and table
 abbrev pub OnTable : Act (Unit {0}) → Step → Step → List ℕ → List ℕ → List ℕ → List ℕ → Type 0
-OnTable act s r j j′ t t′ = (base : ℕ) (lent : Lent) (d : Device) (w m : List ℕ) → told r d w j′ t′ m ≡ on base lent act (told s d w j t m)
+OnTable act s r j j′ t t′ = (base : ℕ) (lent : Lent) (d : Device) (w m : List ℕ) → cameTo r d w j′ t′ m ≡ on base lent act (cameTo s d w j t m)
 
 -- of one that changes scalars only
 abbrev pub OnScalars : Act (Unit {0}) → Step → Step → Type 0
-OnScalars act s r = (base : ℕ) (lent : Lent) (d : Device) (w j t m : List ℕ) → told r d w j t m ≡ on base lent act (told s d w j t m)
+OnScalars act s r = (base : ℕ) (lent : Lent) (d : Device) (w j t m : List ℕ) → cameTo r d w j t m ≡ on base lent act (cameTo s d w j t m)
 
 -- of one that is lent majors
 abbrev pub OnMajors : Act (Unit {0}) → Step → Step → List ℕ → List ℕ → Type 0
-OnMajors act s r m m′ = (base : ℕ) (lent : Lent) (d : Device) (w j t : List ℕ) → told r d w j t m′ ≡ on base lent act (told s d w j t m)
+OnMajors act s r m m′ = (base : ℕ) (lent : Lent) (d : Device) (w j t : List ℕ) → cameTo r d w j t m′ ≡ on base lent act (cameTo s d w j t m)
 
 -- of one that reads the window, and is lent journal and table
 abbrev pub OnWindow : Act (Unit {0}) → ℕ → Step → Step → List ℕ → List ℕ → List ℕ → List ℕ → List ℕ → Type 0
-OnWindow act base s r w j j′ t t′ = (lent : Lent) (d : Device) (m : List ℕ) → told r d w j′ t′ m ≡ on base lent act (told s d w j t m)
+OnWindow act base s r w j j′ t t′ = (lent : Lent) (d : Device) (m : List ℕ) → cameTo r d w j′ t′ m ≡ on base lent act (cameTo s d w j t m)
 
 -- of one that reads the window, and is lent all else
 abbrev pub OnRest : Act (Unit {0}) → ℕ → Step → Step → List ℕ → List ℕ → List ℕ → List ℕ → List ℕ → List ℕ → List ℕ → Type 0
-OnRest act base s r w j j′ t t′ m m′ = (lent : Lent) (d : Device) → told r d w j′ t′ m′ ≡ on base lent act (told s d w j t m)
+OnRest act base s r w j j′ t t′ m m′ = (lent : Lent) (d : Device) → cameTo r d w j′ t′ m′ ≡ on base lent act (cameTo s d w j t m)
 
 -- of one that reads the window and answers: whatever is done with its answer
 abbrev pub Gives : {A : Type 0} → Act A → ℕ → Step → Step → A → List ℕ → Type 0
-Gives {A} act base s r a w = (lent : Lent) (d : Device) (j t m : List ℕ) (k : A → Act (Unit {0})) → on base lent (k a) (told r d w j t m) ≡ on base lent (act >>= k) (told s d w j t m)
+Gives {A} act base s r a w = (lent : Lent) (d : Device) (j t m : List ℕ) (k : A → Act (Unit {0})) → on base lent (k a) (cameTo r d w j t m) ≡ on base lent (act >>= k) (cameTo s d w j t m)
 
 -- of one that is lent window and journal only, from the journal's end `at` on
 abbrev pub Walks : Act (Unit {0}) → ℕ → ℕ → Walk → List ℕ → List ℕ → List ℕ → List ℕ → Type 0

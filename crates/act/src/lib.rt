@@ -1,12 +1,11 @@
 // How far an act has come, as the engine's functions hand it on; and a device in parts.
-use rules::Acted;
 use rules::Controller;
 use rules::Device;
 use rules::Refusal;
 use rules::Scalars;
 use rules::Verdict;
 ghost use mathlib.Core.Path.{_≡_};
-ghost use Rattle.act.specs.Parts.{coreOf, arraysOf, held};
+ghost use Rattle.act.specs.Parts.{coreOf, held};
 ghost use Rattle.act.specs.Worlds.{flowOf};
 
 // ---- steps
@@ -68,21 +67,27 @@ pub fn core_of(d: Device) -> Core
     }
 }
 
-// What a call answers that came to `r`, of a device that has its arrays from `d`.
-pub fn answer(d: Device, r: Done) -> Acted
-    ensures { λ a. ⌜ a ≡ record { verdict = r .verdict; used = r .used; device = held (r .core) (arraysOf d) } ⌝ }
+// A device of these parts.
+pub fn device_of(
+    k: Core,
+    table: [u8; 2048],
+    busy: [u64; 64],
+    majors: [u64; 64],
+    pending: [u32; 64],
+    taken: [u64; 192],
+) -> Device
+    ensures { λ r. ⌜ r ≡ held k (record { table = table; busy = busy; majors = majors; pending = pending; taken = taken }) ⌝ }
 {
-    let core = r.core;
-    let scalars = core.scalars;
-    let controllers = core.controllers;
-    let verdict = r.verdict;
-    let mut e = d;
-    e.scalars = scalars;
-    e.controllers = controllers;
-    e.ignore_masks = core.ignore_masks;
-    Acted {
-        verdict,
-        used: r.used,
-        device: e,
+    let scalars = k.scalars;
+    let controllers = k.controllers;
+    Device {
+        scalars,
+        table,
+        busy,
+        majors,
+        taken,
+        pending,
+        controllers,
+        ignore_masks: k.ignore_masks,
     }
 }

@@ -1,14 +1,13 @@
 -- How acts end, by cases. Assumes nothing.
-use mathlib.Core.Bool.{Bool}
 use mathlib.Core.List.{List, _++_}
 use mathlib.Core.Path.{_≡_, refl, sym, ap, _∙_, subst}
 use Prim.Native.Nat.{ℕ, _-_, _≤_, min}
 use native.Mathlib.Omega.{arith}
-use lib.ListN.{length, take, drop, replicate, length-drop, length-take, take-append-drop}
+use lib.ListN.{length, take, drop, length-drop, take-append-drop}
 use lib.Seq.{take-take, length-take-le}
 use Rattle.rules.specs.Act.{Act, done, _>>_}
 use Rattle.rules.specs.Calls.{Told, told, toldAfter, refusalNumber, verdictNumber, worldOf, levelled}
-use Rattle.rules.specs.Carry.{World, Out, After, unmade, ok, no, cleared, changed, go, leave, perform, Lent}
+use Rattle.rules.specs.Carry.{World, unmade, ok, no, cleared, changed, go, leave, perform, Lent}
 use Rattle.rules.specs.Fields.{fieldsOf}
 use Rattle.rules.specs.Lines.{relevel}
 use Rattle.rules.specs.State.{Device}
@@ -25,7 +24,7 @@ use Rattle.rules.proofs.Leads.{IfAnswered, proper-kept}
 use Rattle.rules.proofs.Steps.{then-ok, then-no, go-done, leave-refused}
 use Rattle.act.specs.Does.{Answers, Does}
 use Rattle.act.specs.Parts.{Arrays, tabled, counted, taking, whole, SameLevels, toldDone}
-use Rattle.act.specs.Worlds.{told as step-told}
+use Rattle.act.specs.Worlds.{cameTo}
 use Rattle.act.specs.declared.Core.{Core}
 use Rattle.act.specs.declared.Done.{Done}
 use Rattle.act.specs.declared.Flow.{Flow}
@@ -38,9 +37,9 @@ use Rattle.closing.specs.declared.Noted.{Noted}
 use Rattle.closing.specs.declared.Noted.the-variants.{At, Full}
 use Rattle.closing.proofs.Group.{group-closes, closes, all-full-so}
 use Rattle.closing.proofs.Parts.{same, same-part, same-busy, same-majors, same-pending, all-noted}
-use Rattle.controllers.specs.Works.{Works, Worked}
+use Rattle.controllers.specs.Works.{Works}
 use Rattle.acting.specs.declared.Reached.{Reached}
-use Rattle.acting.specs.Ending.{arrivedAt, arrived, endAt, Later, Since, begunAt, doneAt, doneBy, refusedBy, clearedFrom, standing, Settled}
+use Rattle.acting.specs.Ending.{arrivedAt, arrived, endAt, Later, Since, begunAt, doneAt, doneBy, refusedBy, clearedFrom, remaining, Settled}
 
 -- ---- lines and level anew
 
@@ -78,8 +77,8 @@ module _ (base : ℕ) (lent : Lent) (act : Act (Unit {0})) (d : Device) (w j₀ 
 
   module _ (k : Core) (x : Arrays) where
     pub settled-on : {s : Step} {c : Flow} {r : Core} → s ≡ Going c → ((y : Arrays) → Works relevel (record { scalars = c .scalars; controllers = k .controllers; «ignore_masks» = k .«ignore_masks» }) r y)
-        → step-told s (whole k x) w′ j (x .table) (x .majors) ≡ go base lent act u → Settled k x s (record { walk = On (c .at); core = r }) base lent act d w j₀ w′ j used
-    unfolding step-told
+        → cameTo s (whole k x) w′ j (x .table) (x .majors) ≡ go base lent act u → Settled k x s (record { walk = On (c .at); core = r }) base lent act d w j₀ w′ j used
+    unfolding cameTo
     settled-on {c = c} {r = r} f works goes =
         let e = whole (record { scalars = c .scalars; controllers = k .controllers; «ignore_masks» = k .«ignore_masks» }) x in
         let went : go base lent act u ≡ ok tt (worldOf e w′ j (c .at)) = sym (rw f at goes) in
@@ -93,9 +92,9 @@ module _ (base : ℕ) (lent : Lent) (act : Act (Unit {0})) (d : Device) (w j₀ 
           ends = rw f refl;
         }
 
-    pub settled-off : {s : Step} {why : Refusal} {c : Flow} → s ≡ Refused why c → step-told s (whole k x) w′ j (x .table) (x .majors) ≡ go base lent act u
+    pub settled-off : {s : Step} {why : Refusal} {c : Flow} → s ≡ Refused why c → cameTo s (whole k x) w′ j (x .table) (x .majors) ≡ go base lent act u
         → Settled k x s (record { walk = Off why (c .at); core = k }) base lent act d w j₀ w′ j used
-    unfolding step-told
+    unfolding cameTo
     settled-off {why = why} {c = c} f goes =
         let e = whole (record { scalars = c .scalars; controllers = k .controllers; «ignore_masks» = k .«ignore_masks» }) x in
         let went : go base lent act u ≡ no (refusalNumber why) (worldOf e w′ j (c .at)) = sym (rw f at goes) in
@@ -218,38 +217,38 @@ module _ (k : Core) (s : Reached) (x : Arrays) (t : List ℕ) (p : Proper (whole
 
 -- what stands after a call, by its verdict; and the other way round
 module _ (r : Done) (x y : Arrays) (h : Heard) (w z j : List ℕ) {u : Told} where
-  pub stands-new : r .verdict ≡ Verdict.Accepted → toldDone h r y w z j ≡ u → toldDone h r (standing (r .verdict) x y) w z j ≡ u
-  unfolding standing
-  stands-new v e = ap (λ (q : Verdict). toldDone h r (standing q x y) w z j) v ∙ e
+  pub stands-new : r .verdict ≡ Verdict.Accepted → toldDone h r y w z j ≡ u → toldDone h r (remaining (r .verdict) x y) w z j ≡ u
+  unfolding remaining
+  stands-new v e = ap (λ (q : Verdict). toldDone h r (remaining q x y) w z j) v ∙ e
 
-  pub stands-old : {why : Refusal} → r .verdict ≡ Verdict.Refused why → toldDone h r x w z j ≡ u → toldDone h r (standing (r .verdict) x y) w z j ≡ u
-  unfolding standing
-  stands-old v e = ap (λ (q : Verdict). toldDone h r (standing q x y) w z j) v ∙ e
+  pub stands-old : {why : Refusal} → r .verdict ≡ Verdict.Refused why → toldDone h r x w z j ≡ u → toldDone h r (remaining (r .verdict) x y) w z j ≡ u
+  unfolding remaining
+  stands-old v e = ap (λ (q : Verdict). toldDone h r (remaining q x y) w z j) v ∙ e
 
-  pub stood-new : r .verdict ≡ Verdict.Accepted → toldDone h r (standing (r .verdict) x y) w z j ≡ u → toldDone h r y w z j ≡ u
-  unfolding standing
-  stood-new v e = sym (ap (λ (q : Verdict). toldDone h r (standing q x y) w z j) v) ∙ e
+  pub stood-new : r .verdict ≡ Verdict.Accepted → toldDone h r (remaining (r .verdict) x y) w z j ≡ u → toldDone h r y w z j ≡ u
+  unfolding remaining
+  stood-new v e = sym (ap (λ (q : Verdict). toldDone h r (remaining q x y) w z j) v) ∙ e
 
-  pub stood-old : {why : Refusal} → r .verdict ≡ Verdict.Refused why → toldDone h r (standing (r .verdict) x y) w z j ≡ u → toldDone h r x w z j ≡ u
-  unfolding standing
-  stood-old v e = sym (ap (λ (q : Verdict). toldDone h r (standing q x y) w z j) v) ∙ e
+  pub stood-old : {why : Refusal} → r .verdict ≡ Verdict.Refused why → toldDone h r (remaining (r .verdict) x y) w z j ≡ u → toldDone h r x w z j ≡ u
+  unfolding remaining
+  stood-old v e = sym (ap (λ (q : Verdict). toldDone h r (remaining q x y) w z j) v) ∙ e
 
 -- what an act does to a device is done from the journal's end on
 pub does-goes : (base : ℕ) (lent : Lent) (act : Act (Unit {0})) (d : Device) (k : Core) (x : Arrays) (w j : List ℕ) (used : ℕ) → Does act d (whole k x)
-    → step-told (Going (record { scalars = k .scalars; at = used })) (whole k x) w j (x .table) (x .majors) ≡ go base lent act (worldOf d w j used)
-unfolding step-told Answers
+    → cameTo (Going (record { scalars = k .scalars; at = used })) (whole k x) w j (x .table) (x .majors) ≡ go base lent act (worldOf d w j used)
+unfolding cameTo Answers
 does-goes base lent act d k x w j used h = sym (h base lent w (take used j) (drop used j))
 
 pub then-levels : {k l m : Core} → SameLevels k l → SameLevels l m → SameLevels k m
 then-levels p q = record { first = p .first ∙ q .first; second = p .second ∙ q .second; third = p .third ∙ q .third }
 
 -- where nothing but the core changed
-pub stood-same : (r : Done) (x : Arrays) (h : Heard) (w z j : List ℕ) {u : Told} → toldDone h r (standing (r .verdict) x x) w z j ≡ u → toldDone h r x w z j ≡ u
+pub stood-same : (r : Done) (x : Arrays) (h : Heard) (w z j : List ℕ) {u : Told} → toldDone h r (remaining (r .verdict) x x) w z j ≡ u → toldDone h r x w z j ≡ u
 stood-same r x h w z j e = sym (ap (λ (y : Arrays). toldDone h r y w z j) (by (r .verdict))) ∙ e
   where
-    by : (v : Verdict) → standing v x x ≡ x
-    by Verdict.Accepted = (unfold standing in refl)
-    by (Verdict.Refused n) = (unfold standing in refl)
+    by : (v : Verdict) → remaining v x x ≡ x
+    by Verdict.Accepted = (unfold remaining in refl)
+    by (Verdict.Refused n) = (unfold remaining in refl)
 
 -- the last records of an act that changed pending counts besides the core
 module _ (k : Core) (s : Reached) (x : Arrays) (p : Proper (whole k x)) (q : List ℕ) (used : ℕ) (j : List ℕ) {b t₁ t₂ n : Noted} {j₁ j₂ j₃ : List ℕ} where

@@ -15,7 +15,7 @@ use Rattle.rules.specs.declared.Verdict.{Verdict}
 use Rattle.rules.specs.declared.Verdict.the-variants as Verdict
 use Rattle.rules.proofs.Each.{Proper}
 use Rattle.act.specs.Parts.{Arrays, tabled, whole, SameLevels, toldDone}
-use Rattle.act.specs.Worlds.{told, walkOf}
+use Rattle.act.specs.Worlds.{cameTo, walkOf}
 use Rattle.act.specs.declared.Core.{Core}
 use Rattle.act.specs.declared.Done.{Done}
 use Rattle.act.specs.declared.Step.{Step}
@@ -73,9 +73,9 @@ abbrev pub clearedFrom : ℕ → List ℕ → List ℕ
 clearedFrom used j = take used j ++ replicate (length j - used) 0
 
 -- what stands after a call that ended so: the one after a refusal, else the other
-unfoldable pub standing : {A : Type 0} → Verdict → A → A → A
-standing Verdict.Accepted x y = y
-standing (Verdict.Refused n) x y = x
+unfoldable pub remaining : {A : Type 0} → Verdict → A → A → A
+remaining Verdict.Accepted x y = y
+remaining (Verdict.Refused n) x y = x
 
 -- ---- promises
 
@@ -89,7 +89,7 @@ pub record Settled (k : Core) (x : Arrays) (s : Step) (r : Reached) (base : ℕ)
 
 abbrev pub Settles : Core → Step → Reached → Type 0
 Settles k s r = (x : Arrays) (base : ℕ) (lent : Lent) (act : Act (Unit {0})) (d : Device) (w j₀ w′ j : List ℕ) (used : ℕ) → Proper d → used ≤ length j₀
-    → told s (whole k x) w′ j (x .table) (x .majors) ≡ go base lent act (worldOf d w j₀ used)
+    → cameTo s (whole k x) w′ j (x .table) (x .majors) ≡ go base lent act (worldOf d w j₀ used)
     → Settled k x s r base lent act d w j₀ w′ j used
 
 -- an act that began with core k and arrays x came to s and, of the arrays, to another table t; j₀ is the journal that it began with
@@ -97,4 +97,4 @@ abbrev pub EndsCore : Core → Reached → Bool → ℕ → Done → List ℕ �
 EndsCore k s levels used r j j′ = (x : Arrays) (t : List ℕ) (base : ℕ) (lent : Lent) (m : Act Heard) (w j₀ z : List ℕ) → Proper (whole k x)
     → used ≤ length j₀ → (levels ≡ false → SameLevels k (s .core)) → Since used j₀ j → Later used (s .walk) j
     → perform base lent m (worldOf (whole k x) w j₀ used) ≡ leave (worldOf (whole k x) w j₀ used) (arrived Heard.Nothing s (tabled x t) w j)
-    → toldDone Heard.Nothing r (standing (r .verdict) x (tabled x t)) w z j′ ≡ toldAfter z used (perform base lent m (worldOf (whole k x) w j₀ used))
+    → toldDone Heard.Nothing r (remaining (r .verdict) x (tabled x t)) w z j′ ≡ toldAfter z used (perform base lent m (worldOf (whole k x) w j₀ used))

@@ -11,6 +11,7 @@ ghost use mathlib.Core.Path.{_≡_};
 ghost use Prim.Native.Nat.{_≤_};
 ghost use lib.ListN.{length};
 ghost use Rattle.rules.specs.declared.Verdict.the-variants as Verdict;
+ghost use Rattle.act.specs.Lent.{_⇒_};
 ghost use Rattle.acting.specs.Ending.{begunAt, doneBy, clearedFrom, Settles, EndsCore};
 
 // How far an act came, and the device's core then: on, with the journal's end, or off, and then nothing more happens.
@@ -94,7 +95,7 @@ pub fn clear(journal: &mut [u8], used: usize)
 // The end of an act that changed the core alone, and perhaps the table; level bytes are looked at where it could have changed them (`levels`).
 pub fn end_core(k: Core, s: Reached, levels: bool, journal: &mut [u8], used: usize) -> Done
     requires { ⌜ used ≤ length (now journal) ⌝ }
-    ensures { λ r. ⌜ EndsCore k s levels used r (now (journal .entry)) (now (journal .exit)) ⌝ }
+    ensures { λ r. ⌜ EndsCore k s levels used r ⇒ journal ⌝ }
 {
     let core = s.core;
     let walk = s.walk;

@@ -17,7 +17,7 @@ use Rattle.memory.specs.Places.{holding}
 use Rattle.scan.specs.Heads.{Scanned}
 use Rattle.scan.proofs.HeadLaws.{number-one}
 use Rattle.scan.proofs.Laws.{table-holding}
-use Rattle.back.specs.Standing.{machine, standing, takenBack, Finds}
+use Rattle.back.specs.Standing.{machine, journalled, takenBack, Finds}
 use Rattle.back.specs.declared.Standing.the-variants.{Group, Damaged}
 
 -- ---- an end, as the code reads it
@@ -39,39 +39,39 @@ module _ (base : ℕ) (w l : List ℕ) (some : 16 ≤ length l) where
 
   -- the used journal l, in any world
   module _ (m : Machine) (free : List ℕ) where
-    ends-with : takeBack base (standing m l free) ≡ takeEnd base (standing m l free) (part l (length l - 16) 16)
+    ends-with : takeBack base (journalled m l free) ≡ takeEnd base (journalled m l free) (part l (length l - 16) 16)
     unfolding takeBack
     ends-with = rw (ne-eqb (length l) 0 (λ z. omega arith), takeBack) (rw last-record refl)
 
-    no-group : ends (part l (length l - 16) 16) ≡ false → takeBack base (standing m l free) ≡ unmade 13 (standing m l free)
+    no-group : ends (part l (length l - 16) 16) ≡ false → takeBack base (journalled m l free) ≡ unmade 13 (journalled m l free)
     unfolding takeEnd
     no-group e = ends-with ∙ rw (e, takeEnd)
 
     module _ (e : ends (part l (length l - 16) 16) ≡ true) (n : ℕ) (said : n ≡ number (part l (length l - 16 + 8) 8)) where
-      a-group : takeBack base (standing m l free) ≡ takeLast base (standing m l free) n
+      a-group : takeBack base (journalled m l free) ≡ takeLast base (journalled m l free) n
       unfolding takeEnd value
       a-group =
           let v : value (part l (length l - 16) 16) ≡ n = ap number (part-part l (length l - 16) 16 8 8 (omega arith)) ∙ sym said in
           ends-with ∙ rw (e, takeEnd) (rw v refl)
 
-      longer : (length l - 16) / 16 < n → takeBack base (standing m l free) ≡ unmade 13 (standing m l free)
+      longer : (length l - 16) / 16 < n → takeBack base (journalled m l free) ≡ unmade 13 (journalled m l free)
       unfolding takeLast
       longer h = a-group ∙ rw (lt-leb ((n + 1) * 16) (length l) (omega arith), takeLast)
 
       module _ (h : n ≤ (length l - 16) / 16) where
-        its-bytes : takeBack base (standing m l free)
-            ≡ takeGroup base (standing m l free) n (take (length l - 16 - n * 16) l) (drop (length l - 16 - n * 16) l)
+        its-bytes : takeBack base (journalled m l free)
+            ≡ takeGroup base (journalled m l free) n (take (length l - 16 - n * 16) l) (drop (length l - 16 - n * 16) l)
         unfolding takeLast
         its-bytes =
             let f : length l - (n + 1) * 16 ≡ length l - 16 - n * 16 = omega arith in
             a-group ∙ rw (le-leb ((n + 1) * 16) (length l) (omega arith), takeLast) (rw f refl)
 
-        damaged : allSound base m n (drop (length l - 16 - n * 16) l) ≡ false → takeBack base (standing m l free) ≡ unmade 13 (standing m l free)
+        damaged : allSound base m n (drop (length l - 16 - n * 16) l) ≡ false → takeBack base (journalled m l free) ≡ unmade 13 (journalled m l free)
         unfolding takeGroup
         damaged s = its-bytes ∙ rw (s, takeGroup)
 
         undone : allSound base m n (drop (length l - 16 - n * 16) l) ≡ true
-            → takeBack base (standing m l free) ≡ made tt (takenBack base (standing m l free) (length l - 16 - n * 16) n)
+            → takeBack base (journalled m l free) ≡ made tt (takenBack base (journalled m l free) (length l - 16 - n * 16) n)
         unfolding takeGroup
         undone s = its-bytes ∙ rw (s, takeGroup) (rw (length-drop (length l - 16 - n * 16) l) refl)
 

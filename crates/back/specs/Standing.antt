@@ -1,4 +1,4 @@
--- The last standing group of a used journal, and what a take-back does with it. Assumes nothing.
+-- The last journalled group of a used journal, and what a take-back does with it. Assumes nothing.
 use mathlib.Core.Bool.{true}
 use mathlib.Core.List.{List, _++_}
 use mathlib.Core.Path.{_≡_}
@@ -17,8 +17,8 @@ abbrev pub machine : List ℕ → Device → Machine
 machine w d = record { mem = w; dev = d }
 
 -- a world with this used journal
-abbrev pub standing : Machine → List ℕ → List ℕ → World
-standing m used free = record { now = m; used = used; free = free }
+abbrev pub journalled : Machine → List ℕ → List ℕ → World
+journalled m used free = record { now = m; used = used; free = free }
 
 -- a group of n records, from index `from` on, and its end, taken back: undone, the journal used as before it, zeros in its place
 abbrev pub takenBack : ℕ → World → ℕ → ℕ → World
@@ -38,10 +38,10 @@ abbrev pub Finds : ℕ → List ℕ → List ℕ → Standing → Type 0
 Finds base w used (Group from n) =
     Sound base w used from n
     × ((d : Device) (free : List ℕ) → length (d .table) ≡ 2048
-    → takeBack base (standing (machine w d) used free) ≡ made tt (takenBack base (standing (machine w d) used free) from n))
+    → takeBack base (journalled (machine w d) used free) ≡ made tt (takenBack base (journalled (machine w d) used free) from n))
 Finds base w used Damaged =
     (d : Device) (free : List ℕ) → length (d .table) ≡ 2048
-    → takeBack base (standing (machine w d) used free) ≡ unmade 13 (standing (machine w d) used free)
+    → takeBack base (journalled (machine w d) used free) ≡ unmade 13 (journalled (machine w d) used free)
 
 -- a record undone where it is a store's, and nothing done where it is a field's; and the other way round
 unfoldable pub undoStore : ℕ → Rec → Machine → Machine

@@ -22,7 +22,7 @@ use Rattle.rules.specs.State.{Device}
 use Rattle.rules.specs.declared.Refusal.{Refusal}
 use Rattle.rules.specs.declared.Refusal.the-variants as Refusal
 use Rattle.rules.proofs.Steps.{bind-ok, bind-no, putting}
-use Rattle.act.specs.Worlds.{world, told}
+use Rattle.act.specs.Worlds.{world, cameTo}
 use Rattle.act.specs.declared.Flow.{Flow}
 use Rattle.act.specs.declared.Step.{Step}
 use Rattle.act.specs.declared.Step.the-variants.{Going, Refused}
@@ -69,8 +69,8 @@ module _ (base : ℕ) (lent : Lent) (u v : World) (ch before n : ℕ) where
 module _ (base : ℕ) (lent : Lent) (ch before : ℕ) (whole : Device → Out (Unit {0})) (f : Flow) (w j t m : List ℕ) (left : ℕ)
     (rest : (d : Device) → go base lent (startLoop left ch before) (world d f w j t m) ≡ whole d)
   where
-    pub start-out : left ≤ 0 → (d : Device) → told (Going f) d w j t m ≡ whole d
-    unfolding told startLoop go
+    pub start-out : left ≤ 0 → (d : Device) → cameTo (Going f) d w j t m ≡ whole d
+    unfolding cameTo startLoop go
     start-out e d = let z : left ≡ 0 = omega arith in rw z at (rest d)
 
     module _ (more : 0 < left) (k : Lent) (same : k ≡ lent) (r : Passed) (w′ j′ t′ m′ : List ℕ) (did : Passes (pass ch) base k f r w w′ j j′ t t′ m m′) where
@@ -80,14 +80,14 @@ module _ (base : ℕ) (lent : Lent) (ch before : ℕ) (whole : Device → Out (U
       ran-so : (d : Device) → passed r f d w′ j′ t′ m′ ≡ go base lent (pass ch) (world d f w j t m)
       ran-so d = rw same at (did d)
 
-      pub start-idle : r ≡ Idle → (d : Device) → told (Going f) d w′ j′ t′ m′ ≡ whole d
-      unfolding told go
+      pub start-idle : r ≡ Idle → (d : Device) → cameTo (Going f) d w′ j′ t′ m′ ≡ whole d
+      unfolding cameTo go
       start-idle e d =
           sym (start-on base lent (world d f w j t m) (world d f w′ j′ t′ m′) ch before (left - 1) false (pass-idle base lent ch d f w j t m w′ j′ t′ m′ r (ran-so d) e)) ∙ from d
 
       module _ (s : Step) (ran : r ≡ Ran s) where
-        pub start-off : {n : Refusal} {g : Flow} → s ≡ Refused n g → (d : Device) → told s d w′ j′ t′ m′ ≡ whole d
-        unfolding told
+        pub start-off : {n : Refusal} {g : Flow} → s ≡ Refused n g → (d : Device) → cameTo s d w′ j′ t′ m′ ≡ whole d
+        unfolding cameTo
         start-off {n} {g} e d =
             rw e (sym (start-refused base lent (world d f w j t m) (world d g w′ j′ t′ m′) ch before (left - 1) (refusalNumber n) (pass-off base lent ch d f w j t m w′ j′ t′ m′ r (ran-so d) s n g ran e)) ∙ from d)
 
@@ -95,8 +95,8 @@ module _ (base : ℕ) (lent : Lent) (ch before : ℕ) (whole : Device → Out (U
           went : (d : Device) → go base lent (cond (eqb (getD m′ ch 0) before) (startLoop (left - 1) ch before) nothing) (world d g w′ j′ t′ m′) ≡ whole d
           went d = sym (start-on base lent (world d f w j t m) (world d g w′ j′ t′ m′) ch before (left - 1) true (pass-on base lent ch d f w j t m w′ j′ t′ m′ r (ran-so d) s g ran going)) ∙ from d
 
-          pub start-stop : (getD m′ ch 0 ≡ before → ⊥) → (d : Device) → told (Going g) d w′ j′ t′ m′ ≡ whole d
-          unfolding told go
+          pub start-stop : (getD m′ ch 0 ≡ before → ⊥) → (d : Device) → cameTo (Going g) d w′ j′ t′ m′ ≡ whole d
+          unfolding cameTo go
           start-stop h d = rw (ne-eqb _ _ h) at (went d)
 
           pub start-again : getD m′ ch 0 ≡ before → (d : Device) → go base lent (startLoop (left - 1) ch before) (world d g w′ j′ t′ m′) ≡ whole d
@@ -190,8 +190,8 @@ module _ (base : ℕ) (lent : Lent) (u : World) (ch n : ℕ) where
 module _ (base : ℕ) (lent : Lent) (ch : ℕ) (whole : Device → Out (Unit {0})) (f : Flow) (w j t m p : List ℕ) (left : ℕ)
     (rest : (d : Device) → go base lent (requestLoop left ch) (world (withPending d p) f w j t m) ≡ whole d)
   where
-    pub request-out : left ≤ 0 → (d : Device) → told (Going f) (withPending d p) w j t m ≡ whole d
-    unfolding told requestLoop go
+    pub request-out : left ≤ 0 → (d : Device) → cameTo (Going f) (withPending d p) w j t m ≡ whole d
+    unfolding cameTo requestLoop go
     request-out e d = let z : left ≡ 0 = omega arith in rw z at (rest d)
 
     module _ (more : 0 < left) {o : Bool} (asked : o ≡ offeredIn (f .scalars .erq) (f .scalars .standing) p ch) where
@@ -201,8 +201,8 @@ module _ (base : ℕ) (lent : Lent) (ch : ℕ) (whole : Device → Out (Unit {0}
       is-offered : (d : Device) → offeredAt ch (world (withPending d p) f w j t m) ≡ o
       is-offered d = sym asked
 
-      pub request-stop : o ≡ false → (d : Device) → told (Going f) (withPending d p) w j t m ≡ whole d
-      unfolding told
+      pub request-stop : o ≡ false → (d : Device) → cameTo (Going f) (withPending d p) w j t m ≡ whole d
+      unfolding cameTo
       request-stop e d = sym (request-none base lent (world (withPending d p) f w j t m) ch (left - 1) (is-offered d ∙ e)) ∙ from-asked d
 
       module _ (e : o ≡ true) (p′ : List ℕ) (paid : p′ ≡ set p ch (getD p ch 0 - 1)) (small : getD p ch 0 < 2 ^ 32)
@@ -220,14 +220,14 @@ module _ (base : ℕ) (lent : Lent) (ch : ℕ) (whole : Device → Out (Unit {0}
           unfolding withDevice
           refused-asked d v n q = sym (request-refused base lent (world (withPending d p) f w j t m) ch (left - 1) (is-offered d ∙ e) small v n (rw paid at q)) ∙ from-asked d
 
-          pub request-idle : r ≡ Idle → (d : Device) → told (Going f) (withPending d p′) w′ j′ t′ m′ ≡ whole d
-          unfolding told go
+          pub request-idle : r ≡ Idle → (d : Device) → cameTo (Going f) (withPending d p′) w′ j′ t′ m′ ≡ whole d
+          unfolding cameTo go
           request-idle i d =
               after-asked d (world (withPending d p′) f w′ j′ t′ m′) false (pass-idle base lent ch (withPending d p′) f w j t m w′ j′ t′ m′ r (ran-asked d) i)
 
           module _ (s : Step) (ran : r ≡ Ran s) where
-            pub request-off : {n : Refusal} {g : Flow} → s ≡ Refused n g → (d : Device) → told s (withPending d p′) w′ j′ t′ m′ ≡ whole d
-            unfolding told
+            pub request-off : {n : Refusal} {g : Flow} → s ≡ Refused n g → (d : Device) → cameTo s (withPending d p′) w′ j′ t′ m′ ≡ whole d
+            unfolding cameTo
             request-off {n} {g} i d =
                 rw i (refused-asked d (world (withPending d p′) g w′ j′ t′ m′) (refusalNumber n) (pass-off base lent ch (withPending d p′) f w j t m w′ j′ t′ m′ r (ran-asked d) s n g ran i))
 

@@ -7,7 +7,7 @@ use Rattle.rules.specs.Calls.{refusalNumber}
 use Rattle.rules.specs.Carry.{Out, ok, no, go, Lent}
 use Rattle.rules.specs.With.{withPending}
 use Rattle.rules.specs.State.{Device}
-use Rattle.act.specs.Worlds.{world, told}
+use Rattle.act.specs.Worlds.{world, cameTo}
 use Rattle.act.specs.declared.Flow.{Flow}
 use Rattle.act.specs.declared.Step.{Step}
 use Rattle.act.specs.declared.Step.the-variants as Step
@@ -16,12 +16,12 @@ use Rattle.channel.specs.declared.Line.the-variants.{Sum, Broken}
 
 -- passes one after the other
 abbrev pub Goes : Act (Unit {0}) → ℕ → Lent → Flow → Step → List ℕ → List ℕ → List ℕ → List ℕ → List ℕ → List ℕ → List ℕ → List ℕ → Type 0
-Goes act base lent c r w w′ j j′ t t′ m m′ = (d : Device) → told r d w′ j′ t′ m′ ≡ go base lent act (world d c w j t m)
+Goes act base lent c r w w′ j j′ t t′ m m′ = (d : Device) → cameTo r d w′ j′ t′ m′ ≡ go base lent act (world d c w j t m)
 
 -- passes on requests, which spend pending counts
 abbrev pub Asks : Act (Unit {0}) → ℕ → Lent → Flow → Step → List ℕ → List ℕ → List ℕ → List ℕ → List ℕ → List ℕ → List ℕ → List ℕ → List ℕ → List ℕ → Type 0
 Asks act base lent c r w w′ j j′ t t′ m m′ p p′ =
-    (d : Device) → told r (withPending d p′) w′ j′ t′ m′ ≡ go base lent act (world (withPending d p) c w j t m)
+    (d : Device) → cameTo r (withPending d p′) w′ j′ t′ m′ ≡ go base lent act (world (withPending d p) c w j t m)
 
 -- the sum of the bytes of a line's passes
 unfoldable pub lined : Line → Device → List ℕ → List ℕ → List ℕ → List ℕ → Out ℕ

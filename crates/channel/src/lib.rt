@@ -11,10 +11,10 @@ use rules::Refusal;
 ghost use mathlib.Core.Path.{_≡_};
 ghost use Prim.Native.Nat.{_-_, _*_, _^_, _<_};
 ghost use lib.ListN.{length, getD, set};
-ghost use Rattle.rules.specs.Carry.{lending};
 ghost use Rattle.rules.specs.Bytes.{part};
 ghost use Rattle.rules.specs.Minor.{tcdOf};
 ghost use Rattle.rules.specs.Run.{startLoop, startPasses, lineLoop, linePasses, requestLoop, requestPasses};
+ghost use Rattle.act.specs.Lent.{_⇒_, by};
 ghost use Rattle.channel.specs.Offers.{offeredIn};
 ghost use Rattle.channel.specs.Goes.{Goes, Asks, Sums, atSum};
 
@@ -80,7 +80,7 @@ pub fn start_loop(
     journal: &mut [u8],
 ) -> Step
     requires { ⌜ ch < 64 ⌝ }
-    ensures { λ r. ⌜ Goes (startLoop startPasses ch before) base (lending (length (now (staging .entry)))) c r (now (window .entry)) (now (window .exit)) (now (journal .entry)) (now (journal .exit)) (now (table .entry)) (now (table .exit)) (now (majors .entry)) (now (majors .exit)) ⌝ }
+    ensures { λ r. ⌜ Goes (startLoop startPasses ch before) base (by staging) c r ⇒ window ⇒ journal ⇒ table ⇒ majors ⌝ }
 {
     let mut f = c;
     let mut left: usize = 0x8000;
@@ -128,7 +128,7 @@ pub fn line_loop(
     staging: &mut [u8],
     journal: &mut [u8],
 ) -> Line
-    ensures { λ r. ⌜ Sums (lineLoop linePasses 0) base (lending (length (now (staging .entry)))) c r (now (window .entry)) (now (window .exit)) (now (journal .entry)) (now (journal .exit)) (now (table .entry)) (now (table .exit)) (now (majors .entry)) (now (majors .exit)) ⌝ }
+    ensures { λ r. ⌜ Sums (lineLoop linePasses 0) base (by staging) c r ⇒ window ⇒ journal ⇒ table ⇒ majors ⌝ }
 {
     let mut f = c;
     let mut sum: u64 = 0;
@@ -170,7 +170,7 @@ pub fn request_loop(
     journal: &mut [u8],
 ) -> Step
     requires { ⌜ ch < 64 ⌝ }
-    ensures { λ r. ⌜ Asks (requestLoop requestPasses ch) base (lending (length (now (staging .entry)))) c r (now (window .entry)) (now (window .exit)) (now (journal .entry)) (now (journal .exit)) (now (table .entry)) (now (table .exit)) (now (majors .entry)) (now (majors .exit)) (now (pending .entry)) (now (pending .exit)) ⌝ }
+    ensures { λ r. ⌜ Asks (requestLoop requestPasses ch) base (by staging) c r ⇒ window ⇒ journal ⇒ table ⇒ majors ⇒ pending ⌝ }
 {
     let mut f = c;
     let mut left: usize = 1048577;

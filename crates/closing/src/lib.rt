@@ -14,6 +14,7 @@ ghost use Rattle.rules.specs.Carry.{line};
 ghost use Rattle.rules.specs.Scalars.{viewScalars};
 ghost use Rattle.rules.specs.Fields.{masksOf};
 ghost use Rattle.rules.proofs.Each.{Proper};
+ghost use Rattle.act.specs.Lent.{_⇒_};
 ghost use Rattle.act.specs.Parts.{Arrays, whole, SameLevels};
 ghost use Rattle.closing.specs.declared.Noted.the-variants.{At};
 ghost use Rattle.closing.specs.Closes.{noting, add, addEnd, Notes, Part, Noteworthy, coreIn, levelsIn};
@@ -39,7 +40,7 @@ fn note(at: usize, kind: u8, width: u8, place: u32, value: u64, journal: &mut [u
 
 // "Kind 2: field (8; number)", with the old value: of field `n`, if it differs.
 fn note_one(at: usize, n: u32, before: u64, after: u64, journal: &mut [u8]) -> Noted
-    ensures { λ r. ⌜ Notes n (before ∷ []) (after ∷ []) (At at) r (now (journal .entry)) (now (journal .exit)) ⌝ }
+    ensures { λ r. ⌜ Notes n (before ∷ []) (after ∷ []) (At at) r ⇒ journal ⌝ }
 {
     if before == after {
         return Noted::At(at);
@@ -49,7 +50,7 @@ fn note_one(at: usize, n: u32, before: u64, after: u64, journal: &mut [u8]) -> N
 
 // The same after other records. (The place is taken out and put in again: handing on the enum whole copies its padding too, which is slow.)
 fn note_field(s: Noted, n: u32, before: u64, after: u64, journal: &mut [u8]) -> Noted
-    ensures { λ r. ⌜ Notes n (before ∷ []) (after ∷ []) s r (now (journal .entry)) (now (journal .exit)) ⌝ }
+    ensures { λ r. ⌜ Notes n (before ∷ []) (after ∷ []) s r ⇒ journal ⌝ }
 {
     let Noted::At(at) = s else {
         return Noted::Full;
@@ -73,7 +74,7 @@ pub fn note_end(s: Noted, used: usize, journal: &mut [u8]) -> Noted
 
 fn note_wides(s: Noted, before: &[u64], after: &[u64], first: u32, journal: &mut [u8]) -> Noted
     requires { ⌜ Noteworthy first (now before) (now after) ⌝ }
-    ensures { λ r. ⌜ Notes first (now (before .entry)) (now (after .entry)) s r (now (journal .entry)) (now (journal .exit)) ⌝ }
+    ensures { λ r. ⌜ Notes first (now (before .entry)) (now (after .entry)) s r ⇒ journal ⌝ }
 {
     let Noted::At(start) = s else {
         return Noted::Full;
@@ -98,7 +99,7 @@ fn wide32(x: u32) -> u64
 
 fn note_words(s: Noted, before: &[u32], after: &[u32], first: u32, journal: &mut [u8]) -> Noted
     requires { ⌜ Noteworthy first (now before) (now after) ⌝ }
-    ensures { λ r. ⌜ Notes first (now (before .entry)) (now (after .entry)) s r (now (journal .entry)) (now (journal .exit)) ⌝ }
+    ensures { λ r. ⌜ Notes first (now (before .entry)) (now (after .entry)) s r ⇒ journal ⌝ }
 {
     let Noted::At(start) = s else {
         return Noted::Full;
@@ -129,7 +130,7 @@ fn wide8(x: u8) -> u64
 
 fn note_bytes(s: Noted, before: &[u8], after: &[u8], first: u32, journal: &mut [u8]) -> Noted
     requires { ⌜ Noteworthy first (now before) (now after) ⌝ }
-    ensures { λ r. ⌜ Notes first (now (before .entry)) (now (after .entry)) s r (now (journal .entry)) (now (journal .exit)) ⌝ }
+    ensures { λ r. ⌜ Notes first (now (before .entry)) (now (after .entry)) s r ⇒ journal ⌝ }
 {
     let Noted::At(start) = s else {
         return Noted::Full;
@@ -161,21 +162,21 @@ pub fn note_channels(
     journal: &mut [u8],
 ) -> Noted
     requires { ⌜ first < 512 ⌝ }
-    ensures { λ r. ⌜ Part 64 first (now (before .entry)) (now (after .entry)) s r (now (journal .entry)) (now (journal .exit)) ⌝ }
+    ensures { λ r. ⌜ Part 64 first (now (before .entry)) (now (after .entry)) s r ⇒ journal ⌝ }
 {
     note_wides(s, before, after, first, journal)
 }
 
 // "192+ch pending".
 pub fn note_pending(s: Noted, before: &[u32; 64], after: &[u32; 64], journal: &mut [u8]) -> Noted
-    ensures { λ r. ⌜ Part 64 192 (now (before .entry)) (now (after .entry)) s r (now (journal .entry)) (now (journal .exit)) ⌝ }
+    ensures { λ r. ⌜ Part 64 192 (now (before .entry)) (now (after .entry)) s r ⇒ journal ⌝ }
 {
     note_words(s, before, after, 192, journal)
 }
 
 // "512+v taken (v 64..255)".
 pub fn note_taken(s: Noted, before: &[u64; 192], after: &[u64; 192], journal: &mut [u8]) -> Noted
-    ensures { λ r. ⌜ Part 192 576 (now (before .entry)) (now (after .entry)) s r (now (journal .entry)) (now (journal .exit)) ⌝ }
+    ensures { λ r. ⌜ Part 192 576 (now (before .entry)) (now (after .entry)) s r ⇒ journal ⌝ }
 {
     note_wides(s, before, after, 576, journal)
 }
@@ -184,7 +185,7 @@ pub fn note_taken(s: Noted, before: &[u64; 192], after: &[u64; 192], journal: &m
 
 // "0 CR, 1 ERQ, 2 EEI, 3 INT, 4 ERR, 5 KICK, 6 DEFERRED, 7 deadline, 8 level, 9 standing requests".
 fn note_scalars(s: Noted, before: Scalars, after: Scalars, journal: &mut [u8]) -> Noted
-    ensures { λ r. ⌜ Notes 0 (viewScalars before) (viewScalars after) s r (now (journal .entry)) (now (journal .exit)) ⌝ }
+    ensures { λ r. ⌜ Notes 0 (viewScalars before) (viewScalars after) s r ⇒ journal ⌝ }
 {
     let b = device::listed(before);
     let a = device::listed(after);
@@ -200,7 +201,7 @@ fn note_own(
     journal: &mut [u8],
 ) -> Noted
     requires { ⌜ first < 64 ⌝ }
-    ensures { λ r. ⌜ Notes first (masksOf (viewController before) []) (masksOf (viewController after) []) s r (now (journal .entry)) (now (journal .exit)) ⌝ }
+    ensures { λ r. ⌜ Notes first (masksOf (viewController before) []) (masksOf (viewController after) []) s r ⇒ journal ⌝ }
 {
     let masks = note_field(s, first, before.masks, after.masks, journal);
     let forced = note_field(masks, first + 1, before.forced, after.forced, journal);
@@ -216,16 +217,32 @@ fn note_own(
 
 // Fields 0 to 63: between these there are none.
 pub fn note_core(s: Noted, before: Core, after: Core, journal: &mut [u8]) -> Noted
-    ensures { λ r. ⌜ Notes 0 (coreIn before) (coreIn after) s r (now (journal .entry)) (now (journal .exit)) ⌝ }
+    ensures { λ r. ⌜ Notes 0 (coreIn before) (coreIn after) s r ⇒ journal ⌝ }
 {
     let numbers = before.scalars;
     let numbers_after = after.scalars;
-    let controllers = before.controllers;
-    let controllers_after = after.controllers;
     let scalars = note_scalars(s, numbers, numbers_after, journal);
-    let first = note_own(scalars, 16, controllers[0], controllers_after[0], journal);
-    let second = note_own(first, 20, controllers[1], controllers_after[1], journal);
-    note_own(second, 24, controllers[2], controllers_after[2], journal)
+    let first = note_own(
+        scalars,
+        16,
+        before.controllers[0],
+        after.controllers[0],
+        journal,
+    );
+    let second = note_own(
+        first,
+        20,
+        before.controllers[1],
+        after.controllers[1],
+        journal,
+    );
+    note_own(
+        second,
+        24,
+        before.controllers[2],
+        after.controllers[2],
+        journal,
+    )
 }
 
 // ---- level bytes
@@ -239,14 +256,14 @@ fn note_level(
     journal: &mut [u8],
 ) -> Noted
     requires { ⌜ first < 512 ⌝ }
-    ensures { λ r. ⌜ Part 64 first (before .levels) (after .levels) s r (now (journal .entry)) (now (journal .exit)) ⌝ }
+    ensures { λ r. ⌜ Part 64 first (before .levels) (after .levels) s r ⇒ journal ⌝ }
 {
     note_bytes(s, &before.levels, &after.levels, first, journal)
 }
 
 // Those of all three.
 fn note_levels(s: Noted, before: Core, after: Core, journal: &mut [u8]) -> Noted
-    ensures { λ r. ⌜ Part 192 256 (levelsIn before) (levelsIn after) s r (now (journal .entry)) (now (journal .exit)) ⌝ }
+    ensures { λ r. ⌜ Part 192 256 (levelsIn before) (levelsIn after) s r ⇒ journal ⌝ }
 {
     let controllers = before.controllers;
     let controllers_after = after.controllers;
@@ -257,7 +274,7 @@ fn note_levels(s: Noted, before: Core, after: Core, journal: &mut [u8]) -> Noted
 
 // The same where the act could have changed them (`touched`): else they are not looked at.
 pub fn note_sources(s: Noted, touched: bool, before: Core, after: Core, journal: &mut [u8]) -> Noted
-    ensures { λ r. ⌜ ((x : Arrays) → Proper (whole before x) → (touched ≡ false → SameLevels before after) → Part 192 256 (levelsIn before) (levelsIn after) s r (now (journal .entry)) (now (journal .exit))) ⌝ }
+    ensures { λ r. ⌜ ((x : Arrays) → Proper (whole before x) → (touched ≡ false → SameLevels before after) → Part 192 256 (levelsIn before) (levelsIn after) s r ⇒ journal) ⌝ }
 {
     if !touched {
         return s;

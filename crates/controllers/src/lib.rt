@@ -5,7 +5,7 @@ use rules::Controller;
 use rules::Heard;
 ghost use mathlib.Core.Path.{_≡_};
 ghost use mathlib.Core.Bool.{cond};
-ghost use Prim.Native.Nat.{_+_, _*_, _^_, _<_, max};
+ghost use Prim.Native.Nat.{_<_, max};
 ghost use lib.Dec.{eqb};
 ghost use lib.ListN.{length};
 ghost use mathlib.Core.List.{map};
@@ -14,6 +14,7 @@ ghost use Rattle.rules.specs.Lines.{ownedFrom, driven, loudest, relevel, answer
 ghost use Rattle.rules.specs.Calls.{setInputs};
 ghost use Rattle.rules.specs.With.{withLines};
 ghost use Rattle.rules.specs.Words.{gain};
+ghost use Rattle.act.specs.Lent.{_⇒_};
 ghost use Rattle.act.specs.Parts.{Arrays, counted, taking};
 ghost use Rattle.controllers.specs.Levels.{sourcesOf, levelIn, controllersIn, highestIn, loudIn, found, saidBy, over};
 ghost use Rattle.controllers.specs.Waiting.{waitingIn};
@@ -219,7 +220,7 @@ pub fn heard_from(ipl: u8, c: usize, k: Controller, ignore: bool, below: Loud) -
 // "It answers that level and vector 64 + 64 x controller + source, whose taken count rises." Counts wrap at 2^64.
 fn hear(loud: Loud, taken: &mut [u64; 192]) -> Heard
     requires { ⌜ loud .at < 192 ⌝ }
-    ensures { λ r. ⌜ Hears (hear (found loud)) r (now (taken .entry)) (now (taken .exit)) ⌝ }
+    ensures { λ r. ⌜ Hears (hear (found loud)) r ⇒ taken ⌝ }
 {
     if loud.level == 0 {
         return Heard::Nothing;

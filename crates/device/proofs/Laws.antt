@@ -18,7 +18,7 @@ use Rattle.rules.specs.declared.Scalars.{Scalars}
 use Rattle.rules.proofs.PartLaws.{any-default, Within, within-set}
 use Rattle.rules.proofs.ScalarLaws.{scalar-bits}
 use Rattle.device.specs.declared.Spot.{Spot}
-use Rattle.device.specs.Spots.{low, cut, Fits, Found, named, Inside, bitsSome, bitsAt}
+use Rattle.device.specs.Spots.{low, cut, Fits, Found, fieldIn, Inside, bitsSome, bitsAt}
 
 -- ---- a controller
 
@@ -42,13 +42,13 @@ module _ {n : ℕ} {s t : Spot} (p : Found n s) (e : s ≡ t) where
   pub found-inside : Inside t
   found-inside = found .inside
 
-  pub found-fits : (v : ℕ) → fitsSome (fieldAt n) v ≡ true → fitsSome (named t) v ≡ true
+  pub found-fits : (v : ℕ) → fitsSome (fieldAt n) v ≡ true → fitsSome (fieldIn t) v ≡ true
   found-fits v h = rw (found .name) h
 
-  pub found-bits : {x : ℕ} → x ≡ bitsSome (named t) → x ≡ bitsAt n
+  pub found-bits : {x : ℕ} → x ≡ bitsSome (fieldIn t) → x ≡ bitsAt n
   found-bits h = h ∙ ap bitsSome (found .name)
 
-  pub found-puts : (v : ℕ) (d : Device) {r : Device} → r ≡ withSome (named t) v d → r ≡ withNumber n v d
+  pub found-puts : (v : ℕ) (d : Device) {r : Device} → r ≡ withSome (fieldIn t) v d → r ≡ withNumber n v d
   found-puts v d h = h ∙ ap (λ o. withSome o v d) (found .name)
 
 -- ---- a value's bits

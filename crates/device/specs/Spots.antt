@@ -23,15 +23,15 @@ cut n [] v = []
 cut n (b ∷ bs) v = low b (getD v n 0) ∷ cut (suc n) bs v
 
 -- the field that stands there
-abbrev pub named : Spot → Option Field
-named Nowhere = none
-named (Scalar n) = some (SCALAR n)
-named (Own c k) = some (ofController k c)
-named (Busy ch) = some (BUSY ch)
-named (Majors ch) = some (MAJORS ch)
-named (Pending ch) = some (PENDING ch)
-named (Source c s) = some (SOURCE c s)
-named (Taken i) = some (TAKEN i)
+abbrev pub fieldIn : Spot → Option Field
+fieldIn Nowhere = none
+fieldIn (Scalar n) = some (SCALAR n)
+fieldIn (Own c k) = some (ofController k c)
+fieldIn (Busy ch) = some (BUSY ch)
+fieldIn (Majors ch) = some (MAJORS ch)
+fieldIn (Pending ch) = some (PENDING ch)
+fieldIn (Source c s) = some (SOURCE c s)
+fieldIn (Taken i) = some (TAKEN i)
 
 -- there is such a place
 abbrev pub Inside : Spot → Type 0
@@ -46,7 +46,7 @@ Inside (Taken i) = i < 192
 
 -- the spot of number n
 pub record Found (n : ℕ) (s : Spot) : Type 0 where
-  pub name : named s ≡ fieldAt n
+  pub name : fieldIn s ≡ fieldAt n
   pub inside : Inside s
 
 -- how many bits a field has; 0 where there is none

@@ -19,7 +19,7 @@ use Rattle.rules.specs.Registers.{within, inTable, command, tableWrite, pick, d
 use Rattle.rules.specs.Minor.{START}
 use Rattle.rules.specs.Words.{has, gain}
 use Rattle.act.specs.Does.{Does}
-use Rattle.act.specs.Worlds.{told, on}
+use Rattle.act.specs.Worlds.{cameTo, on}
 use Rattle.act.specs.declared.Step.{Step}
 use Rattle.act.proofs.DoesLaws.{does-change}
 use Rattle.act.proofs.Laws.{then, fetched}
@@ -88,7 +88,7 @@ changed-to d f g e h = rw e (does-change d f g (rw e at h))
 -- a descriptor write: its store, and then KICK
 module _ (base : ℕ) (lent : Lent) (d : Device) (w : List ℕ) (off size v : ℕ) (s : Step) (j t l : List ℕ) where
   pub table-written : (o : Out (Unit {0})) {r : Out (Unit {0})} {b : Bool} {m : ℕ} → 32 * (off / 32) + 0x1F + 1 ≤ length t → b ≡ startsIn t off size → m ≡ 2 ^ (off / 32)
-      → r ≡ on base lent (when b (change KICK (λ k. bitOr k m))) (told s d w j t l) → told s d w j t l ≡ on base lent (store table off size v) o
+      → r ≡ on base lent (when b (change KICK (λ k. bitOr k m))) (cameTo s d w j t l) → cameTo s d w j t l ≡ on base lent (store table off size v) o
       → r ≡ on base lent (tableWrite off size v) o
   unfolding tableWrite startsIn gain
   table-written o h e f kicks stores =

@@ -10,6 +10,7 @@ ghost use Prim.Native.Nat.{ℕ, _+_, _≤_, _<_};
 ghost use lib.ListN.{length, drop};
 ghost use Rattle.rules.specs.Calls.{badSize, isNone, orNothing};
 ghost use Rattle.rules.specs.Registers.{inTable, tableWrite, pick, dmaArms, dmaWrite};
+ghost use Rattle.act.specs.Lent.{_⇒_};
 ghost use Rattle.act.specs.Worlds.{OnTable};
 ghost use Rattle.dma_commands.specs.Commands.{OnNumbers, Commands};
 ghost use Rattle.dma_read.specs.Access.{Fair};
@@ -86,7 +87,7 @@ pub fn tcd_write(
     journal: &mut [u8],
 ) -> Step
     requires { ⌜ (badSize size ≡ false) × (off + size ≤ 2048) ⌝ }
-    ensures { λ r. ⌜ OnTable (tableWrite off size v) s r (now (journal .entry)) (now (journal .exit)) (now (table .entry)) (now (table .exit)) ⌝ }
+    ensures { λ r. ⌜ OnTable (tableWrite off size v) s r ⇒ journal ⇒ table ⌝ }
 {
     let place = off as usize;
     let width = size as usize;
@@ -165,7 +166,7 @@ fn word_written(
     journal: &mut [u8],
 ) -> Step
     requires { ⌜ inTable off ≡ false ⌝ }
-    ensures { λ r. ⌜ Commands (orNothing (dmaWrite off 4 v)) (now (pending .entry)) s r (now (journal .entry)) (now (journal .exit)) (now (table .entry)) (now (table .exit)) ⌝ }
+    ensures { λ r. ⌜ Commands (orNothing (dmaWrite off 4 v)) (now (pending .entry)) s r ⇒ journal ⇒ table ⌝ }
 {
     match off {
         0x18 => dma_commands::commands(s, table, pending, 0, v, journal),
@@ -193,7 +194,7 @@ fn byte_written(
     journal: &mut [u8],
 ) -> Step
     requires { ⌜ inTable off ≡ false ⌝ }
-    ensures { λ r. ⌜ Commands (orNothing (dmaWrite off 1 v)) (now (pending .entry)) s r (now (journal .entry)) (now (journal .exit)) (now (table .entry)) (now (table .exit)) ⌝ }
+    ensures { λ r. ⌜ Commands (orNothing (dmaWrite off 1 v)) (now (pending .entry)) s r ⇒ journal ⇒ table ⌝ }
 {
     if masks::within(0x18, 0x1F, off) {
         return dma_commands::command(s, table, pending, off - 0x18, v, journal);
@@ -215,7 +216,7 @@ pub fn edma_write(
     journal: &mut [u8],
 ) -> Step
     requires { ⌜ Fair off size ⌝ }
-    ensures { λ r. ⌜ Commands (orNothing (dmaWrite off size v)) (now (pending .entry)) s r (now (journal .entry)) (now (journal .exit)) (now (table .entry)) (now (table .exit)) ⌝ }
+    ensures { λ r. ⌜ Commands (orNothing (dmaWrite off size v)) (now (pending .entry)) s r ⇒ journal ⇒ table ⌝ }
 {
     if masks::within(0x1000, 0x17FF, off) {
         return tcd_write(s, table, off - 0x1000, size, v, journal);

@@ -21,7 +21,7 @@ use Rattle.rules.specs.Words.{has, without}
 use Rattle.rules.specs.declared.Scalars.{Scalars}
 use Rattle.rules.proofs.Masks.{without-le}
 use Rattle.act.specs.Does.{Answers, Does}
-use Rattle.act.specs.Worlds.{told, on}
+use Rattle.act.specs.Worlds.{cameTo, on}
 use Rattle.act.specs.declared.Flow.{Flow}
 use Rattle.act.specs.declared.Step.{Step}
 use Rattle.act.specs.declared.Step.the-variants.{Going}
@@ -58,7 +58,7 @@ requests d n v {m} {a} e h p q asks =
 module _ (base : ℕ) (lent : Lent) where
   pub flag-done : (s : Step) (d : Device) (w j t l : List ℕ) (g : ℕ → ℕ) (ch : ℕ) {x b : ℕ} {r : Out (Unit {0})}
       → 32 * ch + 0x1F + 1 ≤ length t → b ≡ number (part t (32 * ch + 0x1F) 1) → x ≡ g b
-      → r ≡ on base lent (store table (32 * ch + 0x1F) 1 x) (told s d w j t l) → r ≡ on base lent (flagOne g ch) (told s d w j t l)
+      → r ≡ on base lent (store table (32 * ch + 0x1F) 1 x) (cameTo s d w j t l) → r ≡ on base lent (flagOne g ch) (cameTo s d w j t l)
   unfolding flagOne
   flag-done s d w j t l g ch h p e q =
       q ∙ rw (e, p) (sym (fetched base lent s d w j t l (32 * ch + 0x1F) 1 (λ b. store table (32 * ch + 0x1F) 1 (g (number b))) h))
@@ -81,8 +81,8 @@ module _ (base : ℕ) (lent : Lent) where
 module _ (base : ℕ) (lent : Lent) where
   -- what is done to the numbers that stand alone is done to the device they are taken from
   pub numbers-done : (m : Act (Unit {0})) (d : Device) {s : Step} (c : Flow) (n : Scalars) (w j t l : List ℕ) {p : List ℕ} → s ≡ Going c → d .pending ≡ p
-      → OnNumbers m p (c .scalars) n → told (Going (record { scalars = n; at = c .at })) d w j t l ≡ on base lent m (told s d w j t l)
-  unfolding told on Answers
+      → OnNumbers m p (c .scalars) n → cameTo (Going (record { scalars = n; at = c .at })) d w j t l ≡ on base lent m (cameTo s d w j t l)
+  unfolding cameTo on Answers
   numbers-done m d c n w j t l going e h = rw going (sym (h (withMajors (withTable d t) l) e base lent w (take (c .at) j) (drop (c .at) j)))
 
   pub starts : (v : ℕ) (o : Out (Unit {0})) {m : ℕ} {r p : Out (Unit {0})} → m ≡ named v → r ≡ on base lent (when true (change KICK (λ k. bitOr k m))) p

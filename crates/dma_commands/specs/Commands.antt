@@ -13,7 +13,7 @@ use Rattle.rules.specs.With.{withScalars}
 use Rattle.rules.specs.Words.{gain, lose}
 use Rattle.rules.specs.declared.Scalars.{Scalars}
 use Rattle.act.specs.Does.{Does}
-use Rattle.act.specs.Worlds.{told, on}
+use Rattle.act.specs.Worlds.{cameTo, on}
 use Rattle.act.specs.declared.Step.{Step}
 
 -- what a flag command does to a descriptor's last byte
@@ -27,4 +27,4 @@ OnNumbers act p n r = (d : Device) → d .pending ≡ p → Does act (withScalar
 
 -- of one that is lent journal and table
 abbrev pub Commands : Act (Unit {0}) → List ℕ → Step → Step → List ℕ → List ℕ → List ℕ → List ℕ → Type 0
-Commands act p s r j j′ t t′ = (base : ℕ) (lent : Lent) (d : Device) (w m : List ℕ) → d .pending ≡ p → told r d w j′ t′ m ≡ on base lent act (told s d w j t m)
+Commands act p s r j j′ t t′ = (base : ℕ) (lent : Lent) (d : Device) (w m : List ℕ) → d .pending ≡ p → cameTo r d w j′ t′ m ≡ on base lent act (cameTo s d w j t m)

@@ -10,6 +10,7 @@ ghost use lib.Bits.{bitOr};
 ghost use Rattle.rules.specs.Act.{change, when};
 ghost use Rattle.rules.specs.Scalars.{KICK};
 ghost use Rattle.rules.specs.Registers.{flagOne, flagEach, setRequests, setStarts, clearDones, command, commands};
+ghost use Rattle.act.specs.Lent.{_⇒_};
 ghost use Rattle.act.specs.Worlds.{OnTable, OnScalars};
 ghost use Rattle.dma_commands.specs.Commands.{flagged, OnNumbers, Commands};
 
@@ -99,7 +100,7 @@ fn flag_one(
     journal: &mut [u8],
 ) -> Step
     requires { ⌜ ch < 64 ⌝ }
-    ensures { λ r. ⌜ OnTable (when on (flagOne (flagged start) ch)) s r (now (journal .entry)) (now (journal .exit)) (now (table .entry)) (now (table .exit)) ⌝ }
+    ensures { λ r. ⌜ OnTable (when on (flagOne (flagged start) ch)) s r ⇒ journal ⇒ table ⌝ }
 {
     if !on {
         return s;
@@ -111,7 +112,7 @@ fn flag_one(
 
 // "Channels rising": of those in `m`.
 fn flag_each(s: Step, table: &mut [u8; 2048], start: bool, m: u64, journal: &mut [u8]) -> Step
-    ensures { λ r. ⌜ OnTable (flagEach (flagged start) m 64 0) s r (now (journal .entry)) (now (journal .exit)) (now (table .entry)) (now (table .exit)) ⌝ }
+    ensures { λ r. ⌜ OnTable (flagEach (flagged start) m 64 0) s r ⇒ journal ⇒ table ⌝ }
 {
     let mut t = s;
     let mut ch = 0;
@@ -124,7 +125,7 @@ fn flag_each(s: Step, table: &mut [u8; 2048], start: bool, m: u64, journal: &mut
 
 // SSRT: the named channels get START, one record each, and then their KICK bits.
 fn set_starts(s: Step, table: &mut [u8; 2048], v: u32, journal: &mut [u8]) -> Step
-    ensures { λ r. ⌜ OnTable (setStarts v) s r (now (journal .entry)) (now (journal .exit)) (now (table .entry)) (now (table .exit)) ⌝ }
+    ensures { λ r. ⌜ OnTable (setStarts v) s r ⇒ journal ⇒ table ⌝ }
 {
     let m = masks::named(v);
     with_kick(flag_each(s, table, true, m, journal), true, m)
@@ -132,7 +133,7 @@ fn set_starts(s: Step, table: &mut [u8; 2048], v: u32, journal: &mut [u8]) -> St
 
 // CDNE: the named channels lose DONE.
 fn clear_dones(s: Step, table: &mut [u8; 2048], v: u32, journal: &mut [u8]) -> Step
-    ensures { λ r. ⌜ OnTable (clearDones v) s r (now (journal .entry)) (now (journal .exit)) (now (table .entry)) (now (table .exit)) ⌝ }
+    ensures { λ r. ⌜ OnTable (clearDones v) s r ⇒ journal ⇒ table ⌝ }
 {
     flag_each(s, table, false, masks::named(v), journal)
 }
@@ -149,7 +150,7 @@ pub fn command(
     journal: &mut [u8],
 ) -> Step
     requires { ⌜ k < 8 ⌝ }
-    ensures { λ r. ⌜ Commands (command k v) (now (pending .entry)) s r (now (journal .entry)) (now (journal .exit)) (now (table .entry)) (now (table .exit)) ⌝ }
+    ensures { λ r. ⌜ Commands (command k v) (now (pending .entry)) s r ⇒ journal ⇒ table ⌝ }
 {
     match k {
         6 => set_starts(s, table, v, journal),
@@ -175,7 +176,7 @@ pub fn commands(
     journal: &mut [u8],
 ) -> Step
     requires { ⌜ k ≤ 4 ⌝ }
-    ensures { λ r. ⌜ Commands (commands k v) (now (pending .entry)) s r (now (journal .entry)) (now (journal .exit)) (now (table .entry)) (now (table .exit)) ⌝ }
+    ensures { λ r. ⌜ Commands (commands k v) (now (pending .entry)) s r ⇒ journal ⇒ table ⌝ }
 {
     let a = command(s, table, pending, k, v / 0x1000000 % 256, journal);
     let b = command(a, table, pending, k + 1, v / 0x10000 % 256, journal);

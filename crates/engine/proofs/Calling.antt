@@ -11,7 +11,6 @@ use Rattle.rules.specs.Carry.{perform, lending}
 use Rattle.rules.specs.Run.{runAll, serviceAll}
 use Rattle.rules.specs.State.{Device}
 use Rattle.rules.specs.View.{view}
-use Rattle.rules.specs.declared.Acted.{Acted}
 use Rattle.rules.specs.declared.Device.{Device as HeldDevice}
 use Rattle.rules.specs.declared.Heard.the-variants as Heard
 use Rattle.rules.specs.declared.Refusal.{Refusal}
@@ -22,7 +21,7 @@ use Rattle.rules.proofs.CallLaws.{act-wrong}
 use Rattle.act.specs.Parts.{Arrays, whole, held, coreOf, arraysOf, toldDone}
 use Rattle.act.specs.declared.Core.{Core}
 use Rattle.act.specs.declared.Done.{Done}
-use Rattle.engine.specs.Runs.{stepsOf, asked}
+use Rattle.engine.specs.Runs.{turnsOf, callOf}
 
 -- a refusal's number is not 0
 numbered : (n : Refusal) → 0 < refusalNumber n
@@ -44,14 +43,14 @@ service-wrong : (base window journal used time pace : ℕ) → wrong base window
 unfolding wrong
 service-wrong base window journal used time pace = refl
 
-pub asked-wrong : (base window journal used time pace : ℕ) (again : Bool) → wrong base window journal used (asked again time pace) ≡ wrong base window journal used (run time pace)
+pub asked-wrong : (base window journal used time pace : ℕ) (again : Bool) → wrong base window journal used (callOf again time pace) ≡ wrong base window journal used (run time pace)
 asked-wrong base window journal used time pace true = service-wrong base window journal used time pace
 asked-wrong base window journal used time pace false = refl
 
 -- a device by value, from its parts
-pub whole-told : (call : Asked) (base : ℕ) (d : HeldDevice) (y : Arrays) (w s j w′ s′ j′ : List ℕ) (used : ℕ) (k : Core) (r : Done) {a : Acted} → k ≡ coreOf d
+pub whole-told : (call : Asked) (base : ℕ) (d : HeldDevice) (y : Arrays) (w s j w′ s′ j′ : List ℕ) (used : ℕ) (k : Core) (r : Done) {e : HeldDevice} → k ≡ coreOf d
     → toldDone Heard.Nothing r y w′ s′ j′ ≡ after call base (whole k (arraysOf d)) w s j used
-    → a ≡ record { verdict = r .verdict; used = r .used; device = held (r .core) y } → toldActed a w′ s′ j′ ≡ after call base (view d) w s j used
+    → e ≡ held (r .core) y → toldActed (record { verdict = r .verdict; used = r .used; device = e }) w′ s′ j′ ≡ after call base (view d) w s j used
 whole-told call base d y w s j w′ s′ j′ used k r e f g = rw g (rw e at f)
 
 module _ (base : ℕ) (d : Device) (w s j : List ℕ) (used : ℕ) where
@@ -77,7 +76,7 @@ module _ (base : ℕ) (d : Device) (w s j : List ℕ) (used : ℕ) where
     service-told e q = q ∙ sym (rw (e, after))
 
     pub asked-told : (again : Bool) → wrong base (length w) (length j) used (run time pace) ≡ 0
-        → x ≡ toldAfter (replicate (length s) 0) used (perform base (lending (length s)) (levelled (stepsOf again time pace)) (worldOf d w j used))
-        → x ≡ after (asked again time pace) base d w s j used
+        → x ≡ toldAfter (replicate (length s) 0) used (perform base (lending (length s)) (levelled (turnsOf again time pace)) (worldOf d w j used))
+        → x ≡ after (callOf again time pace) base d w s j used
     asked-told true e q = service-told (service-wrong base (length w) (length j) used time pace ∙ e) q
     asked-told false e q = run-told e q

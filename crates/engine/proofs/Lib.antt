@@ -1,4 +1,4 @@
-pub mod Beginning
+pub mod Starts
 pub mod Outcome
 pub mod Calling
 pub mod Unique

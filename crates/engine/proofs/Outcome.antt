@@ -9,9 +9,8 @@ use lib.Seq.{length-take-le}
 use Rattle.rules.specs.Act.{Act, window, table}
 use Rattle.rules.specs.Bytes.{Bytes}
 use Rattle.rules.specs.Calls.{told, refusalNumber, levelled, worldOf, toldAfter}
-use Rattle.rules.specs.Carry.{Machine, World, Out, Rec, stoodAt, stoodIn, there, changed, go, unmade, cleared, perform, Lent, lending}
+use Rattle.rules.specs.Carry.{Machine, World, Rec, stoodAt, stoodIn, there, changed, go, unmade, cleared, perform, Lent, lending}
 use Rattle.rules.specs.Fields.{fieldsOf}
-use Rattle.rules.specs.Run.{runAll}
 use Rattle.rules.specs.TakeBack.{soundStore}
 use Rattle.rules.specs.State.{Device}
 use Rattle.rules.specs.declared.Heard.{Heard}
@@ -25,24 +24,22 @@ use Rattle.rules.proofs.Keeps.{AtEnd, Good}
 use Rattle.rules.proofs.Took.{Underway, go-underway}
 use Rattle.rules.proofs.Undo.{asIn}
 use Rattle.act.specs.Parts.{Arrays, working, whole, toldDone}
-use Rattle.act.specs.Worlds.{over, world, told as step-told, flowOf, walkOf}
+use Rattle.act.specs.Worlds.{world, cameTo, flowOf, walkOf}
 use Rattle.act.specs.declared.Core.{Core}
 use Rattle.act.specs.declared.Done.{Done}
 use Rattle.act.specs.declared.Flow.{Flow}
 use Rattle.act.specs.declared.Step.{Step}
 use Rattle.act.specs.declared.Step.the-variants.{Going, Refused}
 use Rattle.act.specs.declared.Walk.{Walk}
-use Rattle.act.specs.declared.Walk.the-variants.{On, Off}
 use Rattle.journal.specs.Undoing.{RolledBack}
 use Rattle.journal.proofs.Back.{MemorySound, rolled-window, rolled-journal}
 use Rattle.closing.specs.Closes.{noting, addAll, addEnd, Notes, Part, coreIn}
 use Rattle.closing.specs.declared.Noted.{Noted}
 use Rattle.closing.proofs.Parts.{same, same-part, all-noted}
-use Rattle.acting.specs.Ending.{Settled, Settles, Since, begunAt, endAt, doneBy, refusedBy, standing}
+use Rattle.acting.specs.Ending.{Settled, Settles, begunAt, endAt, doneBy, remaining}
 use Rattle.acting.specs.declared.Reached.{Reached}
 use Rattle.acting.proofs.Laws.{since-then, front-then, told-made, told-unmade, core-kept, stands-new, stands-old}
-use Rattle.turns.specs.Turns.{turning}
-use Rattle.engine.specs.Runs.{RunsAll, Offers, stepsOf, Ended, EndsTurns}
+use Rattle.engine.specs.Runs.{RunsAll, Begins, turnsOf, Ended, EndsTurns}
 
 -- ---- the last records of an act of turns
 
@@ -88,15 +85,15 @@ memory-sound base m m′ alike (stoodAt table a w v ∷ rs) s = memory-sound bas
 memory-sound base m m′ alike (stoodIn n v ∷ rs) s = memory-sound base m m′ alike rs (s .1)
 
 -- where a step came to
-at-step : (P : World → Type 0) (s : Step) (d : Device) (w j t m : List ℕ) → AtEnd P (step-told s d w j t m) → P (world d (flowOf s) w j t m)
-unfolding step-told
+at-step : (P : World → Type 0) (s : Step) (d : Device) (w j t m : List ℕ) → AtEnd P (cameTo s d w j t m) → P (world d (flowOf s) w j t m)
+unfolding cameTo
 at-step P (Going c) d w j t m h = h
 at-step P (Refused r c) d w j t m h = h
 
 -- ---- an act that began with d, w, j and came to s, w′, j′: rolled back
 
 module _ (base : ℕ) (lent : Lent) (act : Act (Unit {0})) (d : Device) (w j : List ℕ) (used : ℕ) (proper : Proper d) (bytes : Bytes w) (below : base + length w ≤ 2 ^ 32) (fits : used ≤ length j)
-    (s : Step) (d′ : Device) (w′ j′ tb m : List ℕ) (goes : step-told s d′ w′ j′ tb m ≡ go base lent act (worldOf d w j used))
+    (s : Step) (d′ : Device) (w′ j′ tb m : List ℕ) (goes : cameTo s d′ w′ j′ tb m ≡ go base lent act (worldOf d w j used))
   where
     abbrev u : World
     u = worldOf d w j used
@@ -135,7 +132,7 @@ module _ (base : ℕ) (lent : Lent) (act : Act (Unit {0})) (d : Device) (w j : L
 
 -- ---- a run's
 
-module _ (again : Bool) (time pace base : ℕ) (k : Core) (x : Arrays) (w s j tb b m p : List ℕ) (used : ℕ) (t : Flow) (b₁ : List ℕ) (offers : Offers again time (k .scalars) t b b₁ p used)
+module _ (again : Bool) (time pace base : ℕ) (k : Core) (x : Arrays) (w s j tb b m p : List ℕ) (used : ℕ) (t : Flow) (b₁ : List ℕ) (begins : Begins again time (k .scalars) t b b₁ p used)
     (r : Step) (w′ s′ j′ tb′ b′ m′ p′ : List ℕ) (ran : RunsAll time pace base t r w w′ s s′ j j′ tb tb′ b₁ b′ m m′ p p′)
     (proper : Proper (whole k (working x tb b m p))) (bytes : Bytes w) (below : base + length w ≤ 2 ^ 32) (fits : used ≤ length j)
     (e : Reached) (settles : Settles k r e) (q : Done) (j₂ : List ℕ) {b₀ m₀ p₀ : List ℕ} (closes : EndsTurns k e used q b₀ b′ m₀ m′ p₀ p′ j′ j₂) (same-b : b₀ ≡ b) (same-m : m₀ ≡ m) (same-p : p₀ ≡ p)
@@ -149,20 +146,20 @@ module _ (again : Bool) (time pace base : ℕ) (k : Core) (x : Arrays) (w s j tb
     abbrev new : Arrays
     new = working x tb′ b′ m′ p′
 
-    goes : step-told r (whole k new) w′ j′ tb′ m′ ≡ go base lends (stepsOf again time pace) (worldOf (whole k old) w j used)
-    goes = ran .does (whole k new) ∙ sym (offers pace base lends (k .controllers) (k .«ignore_masks») x tb m w j)
+    goes : cameTo r (whole k new) w′ j′ tb′ m′ ≡ go base lends (turnsOf again time pace) (worldOf (whole k old) w j used)
+    goes = ran .does (whole k new) ∙ sym (begins pace base lends (k .controllers) (k .«ignore_masks») x tb m w j)
 
-    ended : Ended k old new r q base lends (stepsOf again time pace) w j w′ j′ j₂ used
-    ended = (rw (same-b, same-m, same-p) at closes) x tb tb′ r base lends (stepsOf again time pace) w j w′ proper fits (settles new base lends (stepsOf again time pace) (whole k old) w j w′ j′ used proper fits goes)
+    ended : Ended k old new r q base lends (turnsOf again time pace) w j w′ j′ j₂ used
+    ended = (rw (same-b, same-m, same-p) at closes) x tb tb′ r base lends (turnsOf again time pace) w j w′ proper fits (settles new base lends (turnsOf again time pace) (whole k old) w j w′ j′ used proper fits goes)
 
     pub carried-made : q .verdict ≡ Verdict.Accepted
-        → toldDone Heard.Nothing q (standing (q .verdict) old new) w′ s′ j₂ ≡ toldAfter (replicate (length s) 0) used (perform base lends (levelled (stepsOf again time pace)) (worldOf (whole k old) w j used))
+        → toldDone Heard.Nothing q (remaining (q .verdict) old new) w′ s′ j₂ ≡ toldAfter (replicate (length s) 0) used (perform base lends (levelled (turnsOf again time pace)) (worldOf (whole k old) w j used))
     carried-made v = rw (ran .cleared-staging) (stands-new q old new Heard.Nothing w′ (replicate (length s) 0) j₂ v (ended .told-made (replicate (length s) 0) v))
 
     pub carried-unmade : {why : Refusal} → q .verdict ≡ Verdict.Refused why → (w″ j″ : List ℕ) {at : ℕ} → at ≡ flowOf r .at → RolledBack base used at w′ j₂ w″ j″
-        → toldDone Heard.Nothing q (standing (q .verdict) old new) w″ s′ j″ ≡ toldAfter (replicate (length s) 0) used (perform base lends (levelled (stepsOf again time pace)) (worldOf (whole k old) w j used))
+        → toldDone Heard.Nothing q (remaining (q .verdict) old new) w″ s′ j″ ≡ toldAfter (replicate (length s) 0) used (perform base lends (levelled (turnsOf again time pace)) (worldOf (whole k old) w j used))
     carried-unmade {why} v w″ j″ is back =
         rw (ran .cleared-staging)
         (stands-old q old new Heard.Nothing w″ (replicate (length s) 0) j″ v
         (ap (λ (z : Done). toldDone Heard.Nothing z old w″ (replicate (length s) 0) j″) (ended .core-kept why v)
-        ∙ told-back base lends (stepsOf again time pace) (whole k old) w j used proper bytes below fits r (whole k new) w′ j′ tb′ m′ goes j₂ (ended .front) (ended .long) w″ j″ (rw is at back) (replicate (length s) 0) (refusalNumber why) (ended .told-unmade why v)))
+        ∙ told-back base lends (turnsOf again time pace) (whole k old) w j used proper bytes below fits r (whole k new) w′ j′ tb′ m′ goes j₂ (ended .front) (ended .long) w″ j″ (rw is at back) (replicate (length s) 0) (refusalNumber why) (ended .told-unmade why v)))

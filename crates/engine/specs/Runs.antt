@@ -15,12 +15,12 @@ use Rattle.rules.specs.declared.Scalars.{Scalars}
 use Rattle.rules.specs.declared.Verdict.the-variants as Verdict
 use Rattle.rules.proofs.Each.{Proper}
 use Rattle.act.specs.Parts.{Arrays, working, whole, toldDone}
-use Rattle.act.specs.Worlds.{told, flowOf}
+use Rattle.act.specs.Worlds.{flowOf}
 use Rattle.act.specs.declared.Core.{Core}
 use Rattle.act.specs.declared.Done.{Done}
 use Rattle.act.specs.declared.Flow.{Flow}
 use Rattle.act.specs.declared.Step.{Step}
-use Rattle.acting.specs.Ending.{Settled, refusedBy, standing}
+use Rattle.acting.specs.Ending.{Settled, refusedBy, remaining}
 use Rattle.acting.specs.declared.Reached.{Reached}
 use Rattle.turns.specs.Turns.{turning, Turns}
 
@@ -32,18 +32,18 @@ pub record RunsAll (time pace base : ℕ) (t : Flow) (r : Step) (w w′ s s′ j
   pub cleared-staging : s′ ≡ replicate (length s) 0
 
 -- the steps of a service, or of a run
-abbrev pub stepsOf : Bool → ℕ → ℕ → Act (Unit {0})
-stepsOf again time pace = cond again (serviceAll time pace) (runAll time pace)
+abbrev pub turnsOf : Bool → ℕ → ℕ → Act (Unit {0})
+turnsOf again time pace = cond again (serviceAll time pace) (runAll time pace)
 
 -- a core of these numbers
 abbrev pub numbered : Scalars → List HeldController → Bool → Core
 numbered s k ignore = record { scalars = s; controllers = k; «ignore_masks» = ignore }
 
 -- they are the turns of a run that begins with r and busy times b′
-abbrev pub Offers : Bool → ℕ → Scalars → Flow → List ℕ → List ℕ → List ℕ → ℕ → Type 0
-Offers again time s r b b′ p used =
+abbrev pub Begins : Bool → ℕ → Scalars → Flow → List ℕ → List ℕ → List ℕ → ℕ → Type 0
+Begins again time s r b b′ p used =
     (pace base : ℕ) (lent : Lent) (k : List HeldController) (ignore : Bool) (x : Arrays) (tb m w j : List ℕ)
-    → go base lent (stepsOf again time pace) (worldOf (whole (numbered s k ignore) (working x tb b m p)) w j used)
+    → go base lent (turnsOf again time pace) (worldOf (whole (numbered s k ignore) (working x tb b m p)) w j used)
     ≡ go base lent (runAll time pace) (turning (whole (numbered s k ignore) (working x tb b m p)) r w j tb b′ m p)
 
 -- how an act of turns ended that began with core k and arrays x and came, in s₀ and then in s, to arrays x′, window w′ and journal j: all that is
@@ -67,13 +67,13 @@ EndsTurns k s used r b b′ m m′ p p′ j j′ = (x : Arrays) (tb tb′ : List
 abbrev pub Carries : Bool → ℕ → ℕ → ℕ → Core → Done → List ℕ → List ℕ → List ℕ → List ℕ → List ℕ → List ℕ → List ℕ → List ℕ
     → List ℕ → List ℕ → List ℕ → List ℕ → List ℕ → List ℕ → ℕ → Type 0
 Carries again time pace base k r w w′ s s′ j j′ tb tb′ b b′ m m′ p p′ used = (x : Arrays) → Proper (whole k (working x tb b m p))
-    → toldDone Heard.Nothing r (standing (r .verdict) (working x tb b m p) (working x tb′ b′ m′ p′)) w′ s′ j′
-    ≡ toldAfter (replicate (length s) 0) used (perform base (lending (length s)) (levelled (stepsOf again time pace)) (worldOf (whole k (working x tb b m p)) w j used))
+    → toldDone Heard.Nothing r (remaining (r .verdict) (working x tb b m p) (working x tb′ b′ m′ p′)) w′ s′ j′
+    ≡ toldAfter (replicate (length s) 0) used (perform base (lending (length s)) (levelled (turnsOf again time pace)) (worldOf (whole k (working x tb b m p)) w j used))
 
 -- the call
-abbrev pub asked : Bool → ℕ → ℕ → Asked
-asked again time pace = cond again (service time pace) (run time pace)
+abbrev pub callOf : Bool → ℕ → ℕ → Asked
+callOf again time pace = cond again (service time pace) (run time pace)
 
 abbrev pub Runs : Bool → ℕ → ℕ → ℕ → Core → Done → Arrays → List ℕ → List ℕ → List ℕ → List ℕ → List ℕ → List ℕ → List ℕ → List ℕ → List ℕ → List ℕ → List ℕ → List ℕ → List ℕ → List ℕ → ℕ → Type 0
 Runs again time pace base k r x w w′ s s′ j j′ tb tb′ b b′ m m′ p p′ used = Proper (whole k (working x tb b m p))
-    → toldDone Heard.Nothing r (working x tb′ b′ m′ p′) w′ s′ j′ ≡ after (asked again time pace) base (whole k (working x tb b m p)) w s j used
+    → toldDone Heard.Nothing r (working x tb′ b′ m′ p′) w′ s′ j′ ≡ after (callOf again time pace) base (whole k (working x tb b m p)) w s j used

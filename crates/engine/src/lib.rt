@@ -18,8 +18,9 @@ ghost use Prim.Native.Nat.{_+_, _^_, _≤_};
 ghost use lib.ListN.{length};
 ghost use Rattle.rules.specs.View.{view};
 ghost use Rattle.rules.specs.Calls.{verdictNumber, wrong, run as runCall, service as serviceCall, toldActed, after};
+ghost use Rattle.act.specs.Lent.{_⇒_};
 ghost use Rattle.act.specs.Parts.{Arrays};
-ghost use Rattle.engine.specs.Runs.{RunsAll, Offers, EndsTurns, Carries, Runs, asked};
+ghost use Rattle.engine.specs.Runs.{RunsAll, Begins, EndsTurns, Carries, Runs};
 
 // Refusals 5, 6 and 7, in that order.
 fn tested(time: u64, pace: u64, base: u32, window: usize, journal: usize, used: usize) -> Verdict
@@ -54,7 +55,7 @@ fn run_all(
     journal: &mut [u8],
 ) -> Step
     requires { ⌜ (time ≤ 2 ^ 62) × (pace ≤ 1000000) ⌝ }
-    ensures { λ r. ⌜ RunsAll time pace base t r (now (window .entry)) (now (window .exit)) (now (staging .entry)) (now (staging .exit)) (now (journal .entry)) (now (journal .exit)) (now (table .entry)) (now (table .exit)) (now (busy .entry)) (now (busy .exit)) (now (majors .entry)) (now (majors .exit)) (now (pending .entry)) (now (pending .exit)) ⌝ }
+    ensures { λ r. ⌜ RunsAll time pace base t r ⇒ window ⇒ staging ⇒ journal ⇒ table ⇒ busy ⇒ majors ⇒ pending ⌝ }
 {
     let s = turns::run_dma_inner(
         t,
@@ -83,7 +84,7 @@ fn dma_service(
     pending: &[u32; 64],
     used: usize,
 ) -> Flow
-    ensures { λ r. ⌜ Offers true time n r (now (busy .entry)) (now (busy .exit)) (now (pending .entry)) used ⌝ }
+    ensures { λ r. ⌜ Begins true time n r (now (busy .entry)) (now (busy .exit)) (now (pending .entry)) used ⌝ }
 {
     let back = turns::release(time, n.erq, busy);
     let asking = controllers::waiting(n.standing, pending);
@@ -97,7 +98,7 @@ fn dma_service(
 }
 
 // The same of a service (`again`) or of a run, which begins with what is there.
-fn offered(
+fn beginning(
     again: bool,
     n: Scalars,
     time: u64,
@@ -105,7 +106,7 @@ fn offered(
     pending: &[u32; 64],
     used: usize,
 ) -> Flow
-    ensures { λ r. ⌜ Offers again time n r (now (busy .entry)) (now (busy .exit)) (now (pending .entry)) used ⌝ }
+    ensures { λ r. ⌜ Begins again time n r (now (busy .entry)) (now (busy .exit)) (now (pending .entry)) used ⌝ }
 {
     if !again {
         return Flow {
@@ -131,7 +132,7 @@ fn end_turns(
     journal: &mut [u8],
     used: usize,
 ) -> Done
-    ensures { λ r. ⌜ EndsTurns k s used r (now (busy .entry)) (now («busy_now» .entry)) (now (majors .entry)) (now («majors_now» .entry)) (now (pending .entry)) (now («pending_now» .entry)) (now (journal .entry)) (now (journal .exit)) ⌝ }
+    ensures { λ r. ⌜ EndsTurns k s used r (now (busy .entry)) (now («busy_now» .entry)) (now (majors .entry)) (now («majors_now» .entry)) (now (pending .entry)) (now («pending_now» .entry)) ⇒ journal ⌝ }
 {
     let core = s.core;
     let walk = s.walk;
@@ -163,10 +164,10 @@ fn carried(
     used: usize,
 ) -> Done
     requires { ⌜ (time ≤ 2 ^ 62) × (pace ≤ 1000000) × (used ≤ length (now journal)) × (base + length (now window) ≤ 2 ^ 32) × (now busy ≡ now «busy_now») × (now majors ≡ now «majors_now») × (now pending ≡ now «pending_now») ⌝ }
-    ensures { λ r. ⌜ Carries again time pace base k r (now (window .entry)) (now (window .exit)) (now (staging .entry)) (now (staging .exit)) (now (journal .entry)) (now (journal .exit)) (now (table .entry)) (now (table .exit)) (now («busy_now» .entry)) (now («busy_now» .exit)) (now («majors_now» .entry)) (now («majors_now» .exit)) (now («pending_now» .entry)) (now («pending_now» .exit)) used ⌝ }
+    ensures { λ r. ⌜ (Carries again time pace base k r ⇒ window ⇒ staging ⇒ journal ⇒ table ⇒ «busy_now» ⇒ «majors_now» ⇒ «pending_now») used ⌝ }
 {
     let scalars = k.scalars;
-    let t = offered(again, scalars, time, busy_now, pending_now, used);
+    let t = beginning(again, scalars, time, busy_now, pending_now, used);
     let s = run_all(
         t,
         time,
@@ -217,7 +218,7 @@ pub fn run_in(
     journal: &mut [u8],
     used: usize,
 ) -> Done
-    ensures { λ r. ⌜ ((x : Arrays) → Runs again time pace base k r x (now (window .entry)) (now (window .exit)) (now (staging .entry)) (now (staging .exit)) (now (journal .entry)) (now (journal .exit)) (now (table .entry)) (now (table .exit)) (now (busy .entry)) (now (busy .exit)) (now (majors .entry)) (now (majors .exit)) (now (pending .entry)) (now (pending .exit)) used) ⌝ }
+    ensures { λ r. ⌜ ((x : Arrays) → (Runs again time pace base k r x ⇒ window ⇒ staging ⇒ journal ⇒ table ⇒ busy ⇒ majors ⇒ pending) used) ⌝ }
 {
     let v = tested(time, pace, base, window.len(), journal.len(), used);
     let Verdict::Accepted = v else {
@@ -260,9 +261,9 @@ pub fn run_in(
     r
 }
 
-// The same of a device by value.
-fn run_dma(
-    again: bool,
+// "Run": `now`, pace, base address, window, staging, journal. (It and `service` stand alone, each with the whole text: the compiler takes such a
+// function into the entries, and with it the copies of the device; one that both call it does not.)
+pub fn run(
     d: Device,
     time: u64,
     pace: u64,
@@ -272,14 +273,14 @@ fn run_dma(
     journal: &mut [u8],
     used: usize,
 ) -> Acted
-    ensures { λ r. ⌜ toldActed r (now (window .exit)) (now (staging .exit)) (now (journal .exit)) ≡ after (asked again time pace) base (view d) (now (window .entry)) (now (staging .entry)) (now (journal .entry)) used ⌝ }
+    ensures { λ r. ⌜ toldActed r (now (window .exit)) (now (staging .exit)) (now (journal .exit)) ≡ after (runCall time pace) base (view d) (now (window .entry)) (now (staging .entry)) (now (journal .entry)) used ⌝ }
 {
     let mut table = d.table;
     let mut busy = d.busy;
     let mut majors = d.majors;
     let mut pending = d.pending;
     let r = run_in(
-        again,
+        false,
         act::core_of(d),
         time,
         pace,
@@ -293,28 +294,14 @@ fn run_dma(
         journal,
         used,
     );
-    let mut e = d;
-    e.table = table;
-    e.busy = busy;
-    e.majors = majors;
-    e.pending = pending;
-    act::answer(e, r)
-}
-
-// "Run": `now`, pace, base address, window, staging, journal.
-pub fn run(
-    d: Device,
-    time: u64,
-    pace: u64,
-    base: u32,
-    window: &mut [u8],
-    staging: &mut [u8],
-    journal: &mut [u8],
-    used: usize,
-) -> Acted
-    ensures { λ r. ⌜ toldActed r (now (window .exit)) (now (staging .exit)) (now (journal .exit)) ≡ after (runCall time pace) base (view d) (now (window .entry)) (now (staging .entry)) (now (journal .entry)) used ⌝ }
-{
-    run_dma(false, d, time, pace, base, window, staging, journal, used)
+    let core = r.core;
+    let verdict = r.verdict;
+    let taken = d.taken;
+    Acted {
+        verdict,
+        used: r.used,
+        device: act::device_of(core, table, busy, majors, pending, taken),
+    }
 }
 
 // "Service": the same.
@@ -330,5 +317,31 @@ pub fn service(
 ) -> Acted
     ensures { λ r. ⌜ toldActed r (now (window .exit)) (now (staging .exit)) (now (journal .exit)) ≡ after (serviceCall time pace) base (view d) (now (window .entry)) (now (staging .entry)) (now (journal .entry)) used ⌝ }
 {
-    run_dma(true, d, time, pace, base, window, staging, journal, used)
+    let mut table = d.table;
+    let mut busy = d.busy;
+    let mut majors = d.majors;
+    let mut pending = d.pending;
+    let r = run_in(
+        true,
+        act::core_of(d),
+        time,
+        pace,
+        base,
+        window,
+        &mut table,
+        &mut busy,
+        &mut majors,
+        &mut pending,
+        staging,
+        journal,
+        used,
+    );
+    let core = r.core;
+    let verdict = r.verdict;
+    let taken = d.taken;
+    Acted {
+        verdict,
+        used: r.used,
+        device: act::device_of(core, table, busy, majors, pending, taken),
+    }
 }

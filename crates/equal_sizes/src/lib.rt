@@ -8,6 +8,7 @@ ghost use mathlib.Core.Path.{_≡_};
 ghost use Prim.Native.Nat.{_+_, _*_, _%_, _^_, _≤_, _<_};
 ghost use Rattle.rules.specs.Act.{store, window as inWindow};
 ghost use Rattle.rules.specs.Minor.{moveUnit, moveUnits, moveSizes};
+ghost use Rattle.act.specs.Lent.{_⇒_};
 ghost use Rattle.words.specs.Sizes.{Sized};
 ghost use Rattle.words.specs.Widths.{MemoryWidth};
 ghost use Rattle.act.specs.Worlds.{Walks};
@@ -41,7 +42,7 @@ pub fn store(
     at: usize,
 ) -> Walk
     requires { ⌜ MemoryWidth width ⌝ }
-    ensures { λ r. ⌜ Walks (store inWindow address width value) base at r (now (window .entry)) (now (window .exit)) (now (journal .entry)) (now (journal .exit)) ⌝ }
+    ensures { λ r. ⌜ Walks (store inWindow address width value) base at r ⇒ window ⇒ journal ⌝ }
 {
     let Place::At(i) = memory::where_is(base, window, address, width) else {
         return Walk::Off(Refusal::Outside, at);
@@ -67,7 +68,7 @@ fn move_unit(
     at: usize,
 ) -> Walk
     requires { ⌜ MemoryWidth width ⌝ }
-    ensures { λ r. ⌜ Walks (moveUnit width a b) base at r (now (window .entry)) (now (window .exit)) (now (journal .entry)) (now (journal .exit)) ⌝ }
+    ensures { λ r. ⌜ Walks (moveUnit width a b) base at r ⇒ window ⇒ journal ⌝ }
 {
     let Place::At(i) = memory::where_is(base, window, a, width) else {
         return Walk::Off(Refusal::Outside, at);
@@ -101,7 +102,7 @@ fn move_sizes1(
     at: usize,
 ) -> Moved
     requires { ⌜ (step .smod < 32) × (step .dmod < 32) ⌝ }
-    ensures { λ r. ⌜ Moves (moveSizes count (step .soff) (step .smod) (step .doff) (step .dmod) 1 from to) base at r (now (window .entry)) (now (window .exit)) (now (journal .entry)) (now (journal .exit)) ⌝ }
+    ensures { λ r. ⌜ Moves (moveSizes count (step .soff) (step .smod) (step .doff) (step .dmod) 1 from to) base at r ⇒ window ⇒ journal ⌝ }
 {
     let mut s = from;
     let mut d = to;
@@ -134,7 +135,7 @@ fn move_sizes2(
     at: usize,
 ) -> Moved
     requires { ⌜ (step .smod < 32) × (step .dmod < 32) ⌝ }
-    ensures { λ r. ⌜ Moves (moveSizes count (step .soff) (step .smod) (step .doff) (step .dmod) 2 from to) base at r (now (window .entry)) (now (window .exit)) (now (journal .entry)) (now (journal .exit)) ⌝ }
+    ensures { λ r. ⌜ Moves (moveSizes count (step .soff) (step .smod) (step .doff) (step .dmod) 2 from to) base at r ⇒ window ⇒ journal ⌝ }
 {
     let mut s = from;
     let mut d = to;
@@ -167,7 +168,7 @@ fn move_sizes4(
     at: usize,
 ) -> Moved
     requires { ⌜ (step .smod < 32) × (step .dmod < 32) ⌝ }
-    ensures { λ r. ⌜ Moves (moveSizes count (step .soff) (step .smod) (step .doff) (step .dmod) 4 from to) base at r (now (window .entry)) (now (window .exit)) (now (journal .entry)) (now (journal .exit)) ⌝ }
+    ensures { λ r. ⌜ Moves (moveSizes count (step .soff) (step .smod) (step .doff) (step .dmod) 4 from to) base at r ⇒ window ⇒ journal ⌝ }
 {
     let mut s = from;
     let mut d = to;
@@ -210,7 +211,7 @@ fn move_units4(
     at: usize,
 ) -> Walk
     requires { ⌜ count ≤ 8 ⌝ }
-    ensures { λ r. ⌜ Walks (moveUnits count 0 4 from to) base at r (now (window .entry)) (now (window .exit)) (now (journal .entry)) (now (journal .exit)) ⌝ }
+    ensures { λ r. ⌜ Walks (moveUnits count 0 4 from to) base at r ⇒ window ⇒ journal ⌝ }
 {
     let mut end = at;
     let mut k: u32 = 0;
@@ -242,7 +243,7 @@ fn move_bursts(
     at: usize,
 ) -> Moved
     requires { ⌜ (4 ≤ size) × (size ≤ 32) × (step .smod < 32) × (step .dmod < 32) ⌝ }
-    ensures { λ r. ⌜ Moves (moveSizes count (step .soff) (step .smod) (step .doff) (step .dmod) size from to) base at r (now (window .entry)) (now (window .exit)) (now (journal .entry)) (now (journal .exit)) ⌝ }
+    ensures { λ r. ⌜ Moves (moveSizes count (step .soff) (step .smod) (step .doff) (step .dmod) size from to) base at r ⇒ window ⇒ journal ⌝ }
 {
     let units = size / 4;
     let mut s = from;
@@ -279,7 +280,7 @@ pub fn move_sizes(
     at: usize,
 ) -> Moved
     requires { ⌜ (Sized size) × (step .smod < 32) × (step .dmod < 32) ⌝ }
-    ensures { λ r. ⌜ Moves (moveSizes count (step .soff) (step .smod) (step .doff) (step .dmod) size from to) base at r (now (window .entry)) (now (window .exit)) (now (journal .entry)) (now (journal .exit)) ⌝ }
+    ensures { λ r. ⌜ Moves (moveSizes count (step .soff) (step .smod) (step .doff) (step .dmod) size from to) base at r ⇒ window ⇒ journal ⌝ }
 {
     match size {
         1 => move_sizes1(base, window, count, step, from, to, journal, at),

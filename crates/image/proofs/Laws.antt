@@ -17,7 +17,7 @@ use Rattle.rules.proofs.Cut.{splice-cut}
 use Rattle.rules.proofs.Powers.{low-low}
 use Rattle.rules.proofs.ScalarLaws.{scalar-bits}
 use Rattle.device.specs.Spots.{low, cut}
-use Rattle.image.specs.Image.{laid, flagged, numberIn, numbersIn, scalarsIn, alike}
+use Rattle.image.specs.Image.{laid, settingBytes, numberIn, numbersIn, scalarsIn, alike}
 
 -- ---- laying down
 
@@ -70,12 +70,12 @@ pub splice-next : (x : List ℕ) (at : ℕ) (ys zs : List ℕ) → splice (splic
 splice-next x at ys zs = splice-comm x at ys (at + length ys) zs (omega arith) ∙ sym (splice-append x at ys zs)
 
 -- the setting
-flag-laid : (b : Bool) → bytes 8 (cond b 0x0100000000000000 0) ++ bytes 8 0 ≡ flagged b
-unfolding bytes flagged
+flag-laid : (b : Bool) → bytes 8 (cond b 0x0100000000000000 0) ++ bytes 8 0 ≡ settingBytes b
+unfolding bytes settingBytes
 flag-laid true = refl
 flag-laid false = refl
 
-pub flag-put : (x y z : List ℕ) (b : Bool) (f : ℕ) → f ≡ cond b 0x0100000000000000 0 → y ≡ splice x 2048 (bytes 8 f) → z ≡ splice y 2056 (bytes 8 0) → z ≡ splice x 2048 (flagged b)
+pub flag-put : (x y z : List ℕ) (b : Bool) (f : ℕ) → f ≡ cond b 0x0100000000000000 0 → y ≡ splice x 2048 (bytes 8 f) → z ≡ splice y 2056 (bytes 8 0) → z ≡ splice x 2048 (settingBytes b)
 flag-put x y z b f e p q =
     let next : 2048 + length (bytes 8 f) ≡ 2056 = omega (arith, length-bytes 8 f) in
     q ∙ ap (λ l. splice l 2056 (bytes 8 0)) p ∙ ap (λ n. splice (splice x 2048 (bytes 8 f)) n (bytes 8 0)) (sym next) ∙ splice-next x 2048 (bytes 8 f) (bytes 8 0)

@@ -21,7 +21,7 @@ use Rattle.rules.proofs.Powers.{low-low}
 use Rattle.rules.proofs.Each.{Proper}
 use Rattle.rules.proofs.PartLaws.{Within}
 use Rattle.device.proofs.Laws.{some-to-64}
-use Rattle.image.specs.Image.{laid, flagged, imageOf, numberIn, numbersIn, scalarsIn, controllerIn, deviceIn, alike, isImage}
+use Rattle.image.specs.Image.{laid, settingBytes, imageOf, numberIn, numbersIn, scalarsIn, controllerIn, deviceIn, alike, isImage}
 use Rattle.image.proofs.Rows.{device-got, length-joined, total, length-flagged}
 
 -- ---- parts of a list in two
@@ -50,8 +50,8 @@ part-laid (v ∷ vs) (suc n) h =
 -- ---- a field read back
 
 module _ (d : Device) (s : Sound d) (t : length (d .table) ≡ 2048) where
-  front : length (d .table ++ flagged (d .ignore)) ≡ 2064
-  front = length-append (d .table) (flagged (d .ignore)) ∙ rw (t, length-flagged (d .ignore)) refl
+  front : length (d .table ++ settingBytes (d .ignore)) ≡ 2064
+  front = length-append (d .table) (settingBytes (d .ignore)) ∙ rw (t, length-flagged (d .ignore)) refl
 
   fields-long : length (fieldsOf d) ≡ 768
   unfolding total fieldsOf
@@ -60,7 +60,7 @@ module _ (d : Device) (s : Sound d) (t : length (d .table) ≡ 2048) where
   number-at : (n : ℕ) → n < 768 → number (part (imageOf d) (2064 + 8 * n) 8) ≡ getD (fieldsOf d) n 0 % 2 ^ 64
   unfolding imageOf
   number-at n h =
-      let p = d .table ++ flagged (d .ignore) in
+      let p = d .table ++ settingBytes (d .ignore) in
       let vs = fieldsOf d ++ replicate 64 0 in
       let long : length vs ≡ length (fieldsOf d) + 64 = length-append (fieldsOf d) (replicate 64 0) in
       let here : part (p ++ laid vs) (2064 + 8 * n) 8 ≡ bytes 8 (getD vs n 0) = ap (λ m. part (p ++ laid vs) (m + 8 * n) 8) (sym front) ∙ part-behind p (laid vs) (8 * n) 8 ∙ part-laid vs n (omega (arith, long, fields-long)) in
@@ -131,15 +131,15 @@ module _ (d : Device) (s : Sound d) (t : length (d .table) ≡ 2048) where
   table-first : d .table ≡ part (imageOf d) 0 2048
   unfolding imageOf
   table-first =
-      let flag = flagged (d .ignore) in
+      let flag = settingBytes (d .ignore) in
       let rest = laid (fieldsOf d ++ replicate 64 0) in
       let e : part (d .table ++ (flag ++ rest)) 0 (length (d .table)) ≡ d .table = part-first (d .table) (flag ++ rest) in
       sym (ap (λ l. part l 0 2048) (append-assoc (d .table) flag rest) ∙ (rw t at e))
 
   setting : d .ignore ≡ eqb (getD (imageOf d) 2048 0) 1
-  unfolding imageOf flagged
+  unfolding imageOf settingBytes
   setting =
-      let flag = flagged (d .ignore) in
+      let flag = settingBytes (d .ignore) in
       let rest = laid (fieldsOf d ++ replicate 64 0) in
       let e : getD ((d .table ++ flag) ++ rest) 2048 0 ≡ cond (d .ignore) 1 0 =
       ap (λ (l : List ℕ). getD l 2048 0) (append-assoc (d .table) flag rest) ∙ getD-at (d .table) (cond (d .ignore) 1 0) (replicate 15 0 ++ rest) 0 2048 t in

@@ -14,7 +14,7 @@ use Rattle.rules.specs.State.{Controller, Device}
 use Rattle.rules.proofs.BytesLaws.{splice-append, splice-splice, length-part}
 use Rattle.rules.proofs.FieldLaws.{sizes, Sound, sized}
 use Rattle.rules.proofs.PartLaws.{Sized}
-use Rattle.image.specs.Image.{laid, flagged, imageOf, deviceIn, controllerIn, numbersIn, scalarsIn, alike, isImage}
+use Rattle.image.specs.Image.{laid, settingBytes, imageOf, deviceIn, controllerIn, numbersIn, scalarsIn, alike, isImage}
 use Rattle.image.specs.Parts.{scalarsOf, channelsOf, levelsOf, takenOf}
 use Rattle.image.proofs.Laws.{length-laid, splice-next, splice-all, length-numbers, alike-lengths, alike-same}
 
@@ -130,17 +130,17 @@ rows : (d : Device) → joined (joined (scalarsOf d) ∷ ownOf d ∷ joined (cha
 unfolding joined partsOf fieldsOf
 rows d = simp (append-assoc, append-nil)
 
-pub length-flagged : (b : Bool) → length (flagged b) ≡ 16
-unfolding flagged
+pub length-flagged : (b : Bool) → length (settingBytes b) ≡ 16
+unfolding settingBytes
 length-flagged b = refl
 
 pub length-image : (d : Device) → length (d .table) ≡ 2048 → Sized sizes (partsOf d) → length (imageOf d) ≡ 8720
 unfolding total imageOf fieldsOf
 length-image d t s =
-    let f : ℕ = length (d .table ++ flagged (d .ignore)) in
-    let front : f ≡ 2064 = length-append (d .table) (flagged (d .ignore)) ∙ rw (t, length-flagged (d .ignore)) refl in
+    let f : ℕ = length (d .table ++ settingBytes (d .ignore)) in
+    let front : f ≡ 2064 = length-append (d .table) (settingBytes (d .ignore)) ∙ rw (t, length-flagged (d .ignore)) refl in
     let n : length (joined (partsOf d) ++ replicate 64 0) ≡ 832 = length-append (joined (partsOf d)) (replicate 64 0) ∙ rw (length-joined sizes (partsOf d) s) refl in
-    length-append (d .table ++ flagged (d .ignore)) (laid (joined (partsOf d) ++ replicate 64 0)) ∙ rw (front, length-laid (joined (partsOf d) ++ replicate 64 0), n) refl
+    length-append (d .table ++ settingBytes (d .ignore)) (laid (joined (partsOf d) ++ replicate 64 0)) ∙ rw (front, length-laid (joined (partsOf d) ++ replicate 64 0), n) refl
 
 module _ (d : Device) (s : Sound d) (t : length (d .table) ≡ 2048) (x y z n a b c e : List ℕ) where
   length-scalars : length (joined (scalarsOf d)) ≡ 16
@@ -174,12 +174,12 @@ module _ (d : Device) (s : Sound d) (t : length (d .table) ≡ 2048) (x y z n a 
       (row-more z n a 2064 2192 (h0 ∷ []) h1 (16 ∷ []) (length-scalars, tt) refl (row-first z n 2064 h0 j) f) g) h) i
       ∙ ap (λ l. splice z 2064 (laid l)) (rows d)
 
-  pub image-laid : length x ≡ 8720 → y ≡ splice x 0 (d .table) → z ≡ splice y 2048 (flagged (d .ignore)) → n ≡ splice z 2064 (laid (joined (scalarsOf d)))
+  pub image-laid : length x ≡ 8720 → y ≡ splice x 0 (d .table) → z ≡ splice y 2048 (settingBytes (d .ignore)) → n ≡ splice z 2064 (laid (joined (scalarsOf d)))
       → a ≡ splice n 2192 (laid (ownOf d)) → b ≡ splice a 2576 (laid (joined (channelsOf d))) → c ≡ splice b 4112 (laid (joined (levelsOf d)))
       → e ≡ splice c 6672 (laid (joined (takenOf d))) → e ≡ imageOf d
   unfolding imageOf
   image-laid l p q j f g h i =
-      let flag = flagged (d .ignore) in
+      let flag = settingBytes (d .ignore) in
       let ns = laid (fieldsOf d ++ replicate 64 0) in
       let front : z ≡ splice x 0 (d .table ++ flag) = q ∙ ap (λ m. splice m 2048 flag) p ∙ ap (λ n. splice (splice x 0 (d .table)) n flag) (sym (zero-add (length (d .table)) ∙ t)) ∙ splice-next x 0 (d .table) flag in
       let long : length (d .table ++ flag) ≡ 2064 = length-append (d .table) flag ∙ rw (t, length-flagged (d .ignore)) refl in

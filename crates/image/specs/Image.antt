@@ -17,12 +17,12 @@ laid [] = []
 laid (v ∷ vs) = bytes 8 v ++ laid vs
 
 -- byte 2048: 1 where masks are ignored; bytes 2049 to 2063: 0
-unfoldable pub flagged : Bool → List ℕ
-flagged b = cond b 1 0 ∷ replicate 15 0
+unfoldable pub settingBytes : Bool → List ℕ
+settingBytes b = cond b 1 0 ∷ replicate 15 0
 
 -- the table; the setting; the fields by their numbers, and 64 numbers that name none yet
 unfoldable pub imageOf : Device → List ℕ
-imageOf d = (d .table ++ flagged (d .ignore)) ++ laid (fieldsOf d ++ replicate 64 0)
+imageOf d = (d .table ++ settingBytes (d .ignore)) ++ laid (fieldsOf d ++ replicate 64 0)
 
 -- ---- the device that stands in an image
 

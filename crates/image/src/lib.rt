@@ -8,7 +8,7 @@ ghost use lib.ListN.{length, getD};
 ghost use Rattle.rules.specs.Bytes.{splice, part};
 ghost use Rattle.rules.specs.Fields.{joined, ownOf};
 ghost use Rattle.rules.specs.View.{viewController, view};
-ghost use Rattle.image.specs.Image.{laid, flagged, imageOf, numberIn, numbersIn, controllerIn, deviceIn, alike, isImage};
+ghost use Rattle.image.specs.Image.{laid, settingBytes, imageOf, numberIn, numbersIn, controllerIn, deviceIn, alike, isImage};
 ghost use Rattle.image.specs.Parts.{scalarsOf, channelsOf, levelsOf, takenOf};
 
 // How long an image is.
@@ -85,7 +85,7 @@ fn flag_of(ignore_masks: bool) -> u64
 // Bytes 2048 to 2063.
 fn put_flag(image: &mut [u8], ignore_masks: bool)
     requires { ⌜ 2064 ≤ length (now image) ⌝ }
-    ensures { λ _. ⌜ now (image .exit) ≡ splice (now (image .entry)) 2048 (flagged «ignore_masks») ⌝ }
+    ensures { λ _. ⌜ now (image .exit) ≡ splice (now (image .entry)) 2048 (settingBytes «ignore_masks») ⌝ }
 {
     words::put8(image, 2048, flag_of(ignore_masks));
     words::put8(image, 2056, 0);

@@ -8,7 +8,7 @@ use native.Mathlib.Nat.{pow-suc, div-one, div-div-eq-div-mul}
 use native.Mathlib.Omega.{arith}
 use borrow.Author.Tests.{lt-ltb, le-ltb, ltb-true, ltb-false, eqb-true, eqb-false, ne-eqb}
 use lib.Dec.{eqb, ltb}
-use lib.ListN.{length, getD, set, length-set}
+use lib.ListN.{length, set, length-set}
 use lib.Seq.{set-set, set-getD, set-out, getD-set-same}
 use Rattle.rules.specs.State.{Controller, Device}
 use Rattle.rules.specs.Act.{Act, nothing, put, change, when, _>>=_, MASKS, FORCED, CONFIG, SOURCE}

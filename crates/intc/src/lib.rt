@@ -3,11 +3,11 @@
 use act::Core;
 use rules::Controller;
 ghost use mathlib.Core.Path.{_≡_};
-ghost use Prim.Native.Nat.{_+_, _≤_, _<_};
+ghost use Prim.Native.Nat.{_≤_, _<_};
 ghost use lib.ListN.{set};
 ghost use Rattle.rules.specs.View.{viewController};
 ghost use Rattle.rules.specs.Bytes.{bytes, splice};
-ghost use Rattle.rules.specs.Registers.{within, named, controllerRead, controllerWrite};
+ghost use Rattle.rules.specs.Registers.{controllerRead, controllerWrite};
 ghost use Rattle.rules.specs.With.{withLevels};
 ghost use Rattle.rules.proofs.Each.{Proper};
 ghost use Rattle.act.specs.Parts.{Arrays, whole};

@@ -10,6 +10,7 @@ ghost use lib.ListN.{length, drop};
 ghost use Rattle.rules.specs.Act.{store, window as inWindow, table as inTable};
 ghost use Rattle.rules.specs.Bytes.{part, splice};
 ghost use Rattle.rules.specs.Carry.{legal, line};
+ghost use Rattle.act.specs.Lent.{_⇒_};
 ghost use Rattle.act.specs.Worlds.{OnTable};
 ghost use Rattle.words.specs.Widths.{TableWidth};
 ghost use Rattle.journal.specs.Undoing.{undoLine, undoLines, RolledBack};
@@ -52,7 +53,7 @@ pub fn store_table(
     journal: &mut [u8],
 ) -> Step
     requires { ⌜ (place + width ≤ 2048) × (TableWidth width) ⌝ }
-    ensures { λ r. ⌜ OnTable (store inTable place width value) s r (now (journal .entry)) (now (journal .exit)) (now (table .entry)) (now (table .exit)) ⌝ }
+    ensures { λ r. ⌜ OnTable (store inTable place width value) s r ⇒ journal ⇒ table ⌝ }
 {
     let Step::Going(c) = s else {
         return s;

@@ -14,7 +14,7 @@ use Rattle.rules.specs.Words.{wrap32}
 use Rattle.rules.specs.State.{Device}
 use Rattle.rules.specs.declared.Refusal.the-variants as Refusal
 use Rattle.rules.proofs.Steps.{fetch-inside, fetch-outside}
-use Rattle.act.specs.Worlds.{world, told, on}
+use Rattle.act.specs.Worlds.{world, cameTo, on}
 use Rattle.act.specs.declared.Flow.{Flow}
 use Rattle.act.specs.declared.Step.the-variants.{Going, Refused}
 use Rattle.memory.specs.Places.{placeOf}
@@ -30,15 +30,15 @@ module _ (base : ℕ) (lent : Lent) (d : Device) (c : Flow) (w j t m : List ℕ)
     less = omega arith
 
     pub gather-outside : p ≡ Outside → (x : List ℕ)
-        → on base lent (k x) (told (Refused Refusal.Outside c) d w j t m) ≡ on base lent (gather (n - i) (from + i) got >>= k) (told (Going c) d w j t m)
-    unfolding gather on told fetch _>>=_ wrap32
+        → on base lent (k x) (cameTo (Refused Refusal.Outside c) d w j t m) ≡ on base lent (gather (n - i) (from + i) got >>= k) (cameTo (Going c) d w j t m)
+    unfolding gather on cameTo fetch _>>=_ wrap32
     gather-outside h x =
         rw (less, ← address) (sym (fetch-outside base lent window a 1 (λ b. gather (n - (i + 1)) (from + i + 1) (got ++ b) >>= k) (world d c w j t m) (not-there base w a 1 asked h _)))
 
     pub gather-inside : {o : ℕ} → p ≡ At o
-        → on base lent (gather (n - (i + 1)) (from + (i + 1)) (got ++ getD w o 0 ∷ []) >>= k) (told (Going c) d w j t m)
-        ≡ on base lent (gather (n - i) (from + i) got >>= k) (told (Going c) d w j t m)
-    unfolding gather on told fetch _>>=_ wrap32 fetched bytesOf part
+        → on base lent (gather (n - (i + 1)) (from + (i + 1)) (got ++ getD w o 0 ∷ []) >>= k) (cameTo (Going c) d w j t m)
+        ≡ on base lent (gather (n - i) (from + i) got >>= k) (cameTo (Going c) d w j t m)
+    unfolding gather on cameTo fetch _>>=_ wrap32 fetched bytesOf part
     gather-inside h =
         rw (less, ← address, ← add-assoc from i 1, at-index base w a 1 asked h)
         (sym (fetch-inside base lent window a 1 (λ b. gather (n - (i + 1)) (from + i + 1) (got ++ b) >>= k) (world d c w j t m) (at-there base w a 1 asked h _)))

@@ -21,8 +21,9 @@ ghost use lib.ListN.{length};
 ghost use Rattle.rules.specs.Act.{change, when, MAJORS};
 ghost use Rattle.rules.specs.Scalars.{INT, ERQ, KICK};
 ghost use Rattle.rules.specs.Bytes.{bytes, number, part};
-ghost use Rattle.rules.specs.Minor.{tcdOf, tcdBytes, storeWords, storeWhole, link, linkTo, gather, replaced, loadNext, wound, reload, flags, majorEnd, started, minorStores, halfway, minorEnd};
+ghost use Rattle.rules.specs.Minor.{tcdOf, tcdBytes, storeWords, storeWhole, link, linkTo, gather, replaced, loadNext, wound, reload, flags, majorEnd, minorStores, minorEnd};
 ghost use Rattle.rules.specs.Words.{has, gain, lose, countOf};
+ghost use Rattle.act.specs.Lent.{_⇒_};
 ghost use Rattle.act.specs.Worlds.{OnTable, OnScalars, OnMajors, OnWindow, OnRest, Gives};
 
 // ---- the bits of `csr`
@@ -107,7 +108,7 @@ pub fn lower_erq(s: Step, on: bool, ch: usize) -> Step
 // "Majors + 1"; "majors and taken counts wrap at 2^64".
 pub fn count_major(s: Step, majors: &mut [u64; 64], ch: usize) -> Step
     requires { ⌜ ch < 64 ⌝ }
-    ensures { λ r. ⌜ OnMajors (change (MAJORS ch) (λ n. (n + 1) % 2 ^ 64)) s r (now (majors .entry)) (now (majors .exit)) ⌝ }
+    ensures { λ r. ⌜ OnMajors (change (MAJORS ch) (λ n. (n + 1) % 2 ^ 64)) s r ⇒ majors ⌝ }
 {
     let Step::Going(_) = s else {
         return s;
@@ -166,7 +167,7 @@ fn store_words(
     journal: &mut [u8],
 ) -> Step
     requires { ⌜ ch < 64 ⌝ }
-    ensures { λ r. ⌜ OnTable (storeWords ch w0 w1 w2 w3) s r (now (journal .entry)) (now (journal .exit)) (now (table .entry)) (now (table .exit)) ⌝ }
+    ensures { λ r. ⌜ OnTable (storeWords ch w0 w1 w2 w3) s r ⇒ journal ⇒ table ⌝ }
 {
     let place = 32 * ch;
     let s1 = journal::store_table(s, table, place, 8, w0, journal);
@@ -180,7 +181,7 @@ fn store_words(
 // "A START or DONE bit is one of width 1 at 0x1F": START of the linked channel, then its KICK bit.
 pub fn dma_start_linked(s: Step, table: &mut [u8; 2048], ch: usize, journal: &mut [u8]) -> Step
     requires { ⌜ ch < 64 ⌝ }
-    ensures { λ r. ⌜ OnTable (link ch) s r (now (journal .entry)) (now (journal .exit)) (now (table .entry)) (now (table .exit)) ⌝ }
+    ensures { λ r. ⌜ OnTable (link ch) s r ⇒ journal ⇒ table ⌝ }
 {
     let place = 32 * ch + 0x1F;
     let b = words::get1(table, place);
@@ -199,7 +200,7 @@ fn link_to(
     journal: &mut [u8],
 ) -> Step
     requires { ⌜ to < 64 ⌝ }
-    ensures { λ r. ⌜ OnTable (linkTo ch on to) s r (now (journal .entry)) (now (journal .exit)) (now (table .entry)) (now (table .exit)) ⌝ }
+    ensures { λ r. ⌜ OnTable (linkTo ch on to) s r ⇒ journal ⇒ table ⌝ }
 {
     if !on {
         return s;
@@ -235,7 +236,7 @@ fn gather(s: Step, base: u32, window: &[u8], from: u32, next: &mut [u8]) -> Step
 // They "replace the descriptor, and START in them sets KICK".
 fn replace(s: Step, table: &mut [u8; 2048], ch: usize, next: &[u8; 32], journal: &mut [u8]) -> Step
     requires { ⌜ ch < 64 ⌝ }
-    ensures { λ r. ⌜ OnTable (replaced ch (now (next .entry))) s r (now (journal .entry)) (now (journal .exit)) (now (table .entry)) (now (table .exit)) ⌝ }
+    ensures { λ r. ⌜ OnTable (replaced ch (now (next .entry))) s r ⇒ journal ⇒ table ⌝ }
 {
     let w0 = words::get8(next, 0);
     let w1 = words::get8(next, 8);
@@ -256,7 +257,7 @@ fn load_next(
     journal: &mut [u8],
 ) -> Step
     requires { ⌜ ch < 64 ⌝ }
-    ensures { λ r. ⌜ OnWindow (loadNext ch from) base s r (now (window .entry)) (now (journal .entry)) (now (journal .exit)) (now (table .entry)) (now (table .exit)) ⌝ }
+    ensures { λ r. ⌜ OnWindow (loadNext ch from) base s r (now (window .entry)) ⇒ journal ⇒ table ⌝ }
 {
     let mut next = [0u8; 32];
     let s1 = gather(s, base, window, from, &mut next);
@@ -273,7 +274,7 @@ fn ended(csr: u16) -> u16
 // "Without, `slast` and `dlast` are added with modulo, count = `biter`."
 fn wind(s: Step, table: &mut [u8; 2048], ch: usize, t: Tcd, journal: &mut [u8]) -> Step
     requires { ⌜ ch < 64 ⌝ }
-    ensures { λ r. ⌜ OnTable (storeWhole ch (tcdBytes (wound t))) s r (now (journal .entry)) (now (journal .exit)) (now (table .entry)) (now (table .exit)) ⌝ }
+    ensures { λ r. ⌜ OnTable (storeWhole ch (tcdBytes (wound t))) s r ⇒ journal ⇒ table ⌝ }
 {
     let saddr = words::modulo_add(t.saddr, t.slast, (t.attr / 0x800 % 32) as u32);
     let daddr = words::modulo_add(t.daddr, t.dlast, (t.attr / 8 % 32) as u32);
@@ -295,7 +296,7 @@ fn reload(
     journal: &mut [u8],
 ) -> Step
     requires { ⌜ ch < 64 ⌝ }
-    ensures { λ r. ⌜ OnWindow (reload ch t) base s r (now (window .entry)) (now (journal .entry)) (now (journal .exit)) (now (table .entry)) (now (table .exit)) ⌝ }
+    ensures { λ r. ⌜ OnWindow (reload ch t) base s r (now (window .entry)) ⇒ journal ⇒ table ⌝ }
 {
     if csr_has(t.csr, ESG) {
         return load_next(s, base, window, table, ch, t.dlast, journal);
@@ -323,7 +324,7 @@ pub fn dma_major_done(
     journal: &mut [u8],
 ) -> Step
     requires { ⌜ ch < 64 ⌝ }
-    ensures { λ r. ⌜ OnRest (majorEnd ch) base s r (now (window .entry)) (now (journal .entry)) (now (journal .exit)) (now (table .entry)) (now (table .exit)) (now (majors .entry)) (now (majors .exit)) ⌝ }
+    ensures { λ r. ⌜ OnRest (majorEnd ch) base s r (now (window .entry)) ⇒ journal ⇒ table ⇒ majors ⌝ }
 {
     let t = read_tcd(table, ch);
     let csr = t.csr;
@@ -375,7 +376,7 @@ fn minor_stores(
     journal: &mut [u8],
 ) -> Step
     requires { ⌜ ch < 64 ⌝ }
-    ensures { λ r. ⌜ OnTable (minorStores ch saddr daddr citer csr) s r (now (journal .entry)) (now (journal .exit)) (now (table .entry)) (now (table .exit)) ⌝ }
+    ensures { λ r. ⌜ OnTable (minorStores ch saddr daddr citer csr) s r ⇒ journal ⇒ table ⌝ }
 {
     let place = 32 * ch;
     let s1 = journal::store_table(s, table, place, 4, saddr as u64, journal);
@@ -398,7 +399,7 @@ pub fn dma_minor_done(
     journal: &mut [u8],
 ) -> Step
     requires { ⌜ (ch < 64) × (0 < countOf (t .citer)) ⌝ }
-    ensures { λ r. ⌜ OnRest (minorEnd ch t saddr daddr) base s r (now (window .entry)) (now (journal .entry)) (now (journal .exit)) (now (table .entry)) (now (table .exit)) (now (majors .entry)) (now (majors .exit)) ⌝ }
+    ensures { λ r. ⌜ OnRest (minorEnd ch t saddr daddr) base s r (now (window .entry)) ⇒ journal ⇒ table ⇒ majors ⌝ }
 {
     let n = words::count_of(t.citer) - 1;
     let citer = words::recounted(t.citer, n);

@@ -1,7 +1,7 @@
 // Masks and registers in parts: some bits of a mask, some bytes of a register, the bits that a command byte names, an offset within a range.
 // Each contract is an equation with a definition of crate `rules` (specs/Lines.antt, specs/Registers.antt).
 ghost use mathlib.Core.Path.{_≡_};
-ghost use Prim.Native.Nat.{_+_, _*_, _^_, _≤_, _<_};
+ghost use Prim.Native.Nat.{_+_, _^_, _≤_, _<_};
 ghost use Rattle.rules.specs.Lines.{bitsFrom, withBitsFrom};
 ghost use Rattle.rules.specs.Registers.{within, bytesIn, withBytesIn, named};
 

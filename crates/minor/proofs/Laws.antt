@@ -15,7 +15,7 @@ use Rattle.rules.specs.State.{Device}
 use Rattle.rules.specs.declared.Refusal.{Refusal}
 use Rattle.rules.specs.declared.Tcd.{Tcd}
 use Rattle.rules.proofs.Steps.{andThen, go-bind}
-use Rattle.act.specs.Worlds.{over, world, told, on}
+use Rattle.act.specs.Worlds.{over, world, cameTo, on}
 use Rattle.act.specs.declared.Flow.{Flow}
 use Rattle.act.specs.declared.Step.{Step}
 use Rattle.act.specs.declared.Step.the-variants as Step
@@ -61,7 +61,7 @@ module _ (base : ℕ) (lent : Lent) (d : Device) (c : Flow) (w j t m : List ℕ)
   rest p = finishing p >> done true
 
   body : go base lent (cond (eqb (countOf (x .citer)) 0) (done false) (moving >>= rest)) start ≡ go base lent (pass ch) start
-  unfolding pass told on go ask _>>=_
+  unfolding pass cameTo on go ask _>>=_
   body = described base lent (Step.Going c) d w j t m ch _ read fits
 
   pub pass-idle : {n : ℕ} → n ≡ countOf (x .citer) → n ≡ 0 → passed Idle c d w j t m ≡ go base lent (pass ch) start
@@ -79,15 +79,15 @@ module _ (base : ℕ) (lent : Lent) (d : Device) (c : Flow) (w j t m : List ℕ)
     unfolding passed moved andThen
     pass-not {k} {e} h = working (Moved.Not k e) h
 
-    ran : (q : Step) (w″ j″ t″ m″ : List ℕ) → passed (Ran q) c d w″ j″ t″ m″ ≡ on base lent (done true) (told q d w″ j″ t″ m″)
-    unfolding passed on told go
+    ran : (q : Step) (w″ j″ t″ m″ : List ℕ) → passed (Ran q) c d w″ j″ t″ m″ ≡ on base lent (done true) (cameTo q d w″ j″ t″ m″)
+    unfolding passed on cameTo go
     ran (Step.Going f) w″ j″ t″ m″ = refl
     ran (Step.Refused k f) w″ j″ t″ m″ = refl
 
     pub pass-to : {s₀ d₀ e s₁ d₁ : ℕ} → r ≡ Moved.To s₀ d₀ e → s₁ ≡ offset (sourceOffset (c .scalars .cr) x) x s₀ → d₁ ≡ offset (destOffset (c .scalars .cr) x) x d₀
-        → (q : Step) (w″ j″ t″ m″ : List ℕ) → told q d w″ j″ t″ m″ ≡ on base lent (minorEnd ch x s₁ d₁) (told (Step.Going (ended c e)) d w′ j′ t m)
+        → (q : Step) (w″ j″ t″ m″ : List ℕ) → cameTo q d w″ j″ t″ m″ ≡ on base lent (minorEnd ch x s₁ d₁) (cameTo (Step.Going (ended c e)) d w′ j′ t m)
         → passed (Ran q) c d w″ j″ t″ m″ ≡ go base lent (pass ch) start
-    unfolding moved andThen told on
+    unfolding moved andThen cameTo on
     pass-to {s₀} {d₀} {e} {s₁} {d₁} h p₁ p₂ q w″ j″ t″ m″ k =
         let o : Out (Unit {0}) = ok tt (world d (ended c e) w′ j′ t m) in
         ran q w″ j″ t″ m″

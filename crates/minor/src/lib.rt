@@ -7,9 +7,8 @@ use equal_sizes::Steps;
 use rules::Tcd;
 ghost use mathlib.Core.Path.{_≡_};
 ghost use Prim.Native.Nat.{_≤_, _<_, _^_};
-ghost use lib.ListN.{length};
-ghost use Rattle.rules.specs.Carry.{lending};
 ghost use Rattle.rules.specs.Minor.{transfer, pass};
+ghost use Rattle.act.specs.Lent.{_⇒_, by};
 ghost use Rattle.unequal_sizes.specs.Stages.{Stages};
 ghost use Rattle.minor.specs.Passes.{Passes};
 ghost use Rattle.minor.specs.Stepping.{stepsOf};
@@ -43,7 +42,7 @@ fn transfer(
     at: usize,
 ) -> Moved
     requires { ⌜ n ≤ 2 ^ 22 ⌝ }
-    ensures { λ r. ⌜ Stages (transfer t n) base (lending (length (now (staging .entry)))) at r (now (window .entry)) (now (window .exit)) (now (journal .entry)) (now (journal .exit)) ⌝ }
+    ensures { λ r. ⌜ Stages (transfer t n) base (by staging) at r ⇒ window ⇒ journal ⌝ }
 {
     let ssize = words::size_of(t.attr / 0x100);
     let dsize = words::size_of(t.attr);
@@ -89,7 +88,7 @@ pub fn dma_minor(
     journal: &mut [u8],
 ) -> Passed
     requires { ⌜ ch < 64 ⌝ }
-    ensures { λ r. ⌜ Passes (pass ch) base (lending (length (now (staging .entry)))) c r (now (window .entry)) (now (window .exit)) (now (journal .entry)) (now (journal .exit)) (now (table .entry)) (now (table .exit)) (now (majors .entry)) (now (majors .exit)) ⌝ }
+    ensures { λ r. ⌜ Passes (pass ch) base (by staging) c r ⇒ window ⇒ journal ⇒ table ⇒ majors ⌝ }
 {
     let t = major_end::read_tcd(table, ch);
     if words::count_of(t.citer) == 0 {

@@ -13,7 +13,6 @@ use Rattle.rules.specs.Calls.{Asked, write, actOf, setPending, badSize, badJour
 use Rattle.rules.specs.Carry.{Out, ok, changed, go, leave, perform, Lent, lending}
 use Rattle.rules.specs.Fields.{bitsOf, fieldsOf}
 use Rattle.rules.specs.Registers.{within, inBlocks, inTable, blockOf, offsetOf, dmaRead, dmaWrite, readIn, readAt, writeIn, writeAt, controllerWrite, pastTable, pastWord}
-use Rattle.rules.specs.declared.Acted.{Acted}
 use Rattle.rules.specs.State.{Device}
 use Rattle.rules.specs.View.{view}
 use Rattle.rules.specs.declared.Device.{Device as HeldDevice}
@@ -27,7 +26,7 @@ use Rattle.rules.proofs.BoolLaws.{and-left, and-both}
 use Rattle.rules.proofs.Each.{Proper}
 use Rattle.act.specs.Does.{Answers, Does}
 use Rattle.act.specs.Parts.{Arrays, tabled, counted, taking, whole, held, coreOf, arraysOf, toldDone}
-use Rattle.act.specs.Worlds.{on, told as step-told}
+use Rattle.act.specs.Worlds.{on, cameTo}
 use Rattle.act.specs.declared.Core.{Core}
 use Rattle.act.specs.declared.Done.{Done}
 use Rattle.act.specs.declared.Step.the-variants.{Going}
@@ -42,7 +41,7 @@ use Rattle.acting.proofs.Laws.{told-made, told-cleared, does-goes, counts-noted
 use Rattle.intc.specs.Writes.{InWord}
 use Rattle.masks.proofs.Ranges.{within-true}
 use Rattle.dma_read.specs.Access.{Fair}
-use Rattle.registers.specs.Asked.{pastEnd, pastPart, readSo, asked}
+use Rattle.registers.specs.Asked.{pastEnd, pastPart, readSo, answered}
 
 -- ---- tests
 
@@ -133,8 +132,8 @@ module _ (does : Option (Act (Unit {0}))) (past bad : Bool) where
 -- ---- refused, accepted
 
 module _ (m : Act Heard) (base : ℕ) (d : Device) (w staging j : List ℕ) (used : ℕ) where
-  told-no : (why : Refusal) → told (refusalNumber why) Heard.Nothing d w staging j used ≡ asked (refusalNumber why) m base d w staging j used
-  unfolding asked
+  told-no : (why : Refusal) → told (refusalNumber why) Heard.Nothing d w staging j used ≡ answered (refusalNumber why) m base d w staging j used
+  unfolding answered
   told-no Refusal.Size = refl
   told-no Refusal.Address = refl
   told-no Refusal.Register = refl
@@ -149,22 +148,22 @@ module _ (m : Act Heard) (base : ℕ) (d : Device) (w staging j : List ℕ) (use
   told-no Refusal.NothingStands = refl
   told-no Refusal.Damaged = refl
 
-  pub accepts : {n : ℕ} {x : Told} → n ≡ 0 → x ≡ toldAfter staging used (perform base (lending (length staging)) m (worldOf d w j used)) → x ≡ asked n m base d w staging j used
-  unfolding asked
+  pub accepts : {n : ℕ} {x : Told} → n ≡ 0 → x ≡ toldAfter staging used (perform base (lending (length staging)) m (worldOf d w j used)) → x ≡ answered n m base d w staging j used
+  unfolding answered
   accepts e q = rw e q
 
 -- of a device in parts
 pub refuses : (m : Act Heard) (base : ℕ) (k : Core) (x : Arrays) (w staging j : List ℕ) (used : ℕ) (why : Refusal) {n : ℕ} {r : Done}
-    → r ≡ record { verdict = Verdict.Refused why; used = used; core = k } → n ≡ refusalNumber why → toldDone Heard.Nothing r x w staging j ≡ asked n m base (whole k x) w staging j used
+    → r ≡ record { verdict = Verdict.Refused why; used = used; core = k } → n ≡ refusalNumber why → toldDone Heard.Nothing r x w staging j ≡ answered n m base (whole k x) w staging j used
 refuses m base k x w staging j used why e f = rw (e, f) (told-no m base (whole k x) w staging j used why)
 
 -- a call that leaves staging as it is
 pub asked-after : (c : Asked) (base : ℕ) (d : Device) (w staging j : List ℕ) (used : ℕ) → stagingAfter c staging ≡ staging
-    → asked (wrong base (length w) (length j) used c) (actOf c) base d w staging j used ≡ after c base d w staging j used
-unfolding asked after
+    → answered (wrong base (length w) (length j) used c) (actOf c) base d w staging j used ≡ after c base d w staging j used
+unfolding answered after
 asked-after c base d w staging j used e = by (wrong base (length w) (length j) used c)
   where
-    by : (n : ℕ) → asked n (actOf c) base d w staging j used ≡ elim n [
+    by : (n : ℕ) → answered n (actOf c) base d w staging j used ≡ elim n [
       | zero ↦ toldAfter (stagingAfter c staging) used (perform base (lending (length staging)) (actOf c) (worldOf d w j used))
       | suc k ↦ told (suc k) Heard.Nothing d w staging j used
     ]
@@ -196,13 +195,13 @@ module _ (address size v base : ℕ) (d : Device) (w staging j : List ℕ) (used
 
     module _ (b : inBlocks address ≡ true) where
       pub write-dma-after : blockOf address ≡ 0
-          → asked (number (dmaWrite off size v) (pastEnd off size) (badJournal (length j) used)) (levelled (orNothing (dmaWrite off size v))) base d w staging j used
+          → answered (number (dmaWrite off size v) (pastEnd off size) (badJournal (length j) used)) (levelled (orNothing (dmaWrite off size v))) base d w staging j used
           ≡ after (write address size v) base d w staging j used
       unfolding stagingAfter wrong check actOf writeAt writeIn offsetOf pastTable pastWord pastEnd
       write-dma-after z = rw (← asked-after (write address size v) base d w staging j used refl, s, b, z, or-false)
 
       pub write-controller-after : (c : ℕ) → blockOf address ≡ suc c
-          → asked (number (controllerWrite c off size v) (pastPart off size) (badJournal (length j) used)) (levelled (orNothing (controllerWrite c off size v))) base d w staging j used
+          → answered (number (controllerWrite c off size v) (pastPart off size) (badJournal (length j) used)) (levelled (orNothing (controllerWrite c off size v))) base d w staging j used
           ≡ after (write address size v) base d w staging j used
       unfolding stagingAfter wrong check actOf writeAt writeIn offsetOf pastTable pastWord pastPart
       write-controller-after c z =
@@ -210,8 +209,8 @@ module _ (address size v base : ℕ) (d : Device) (w staging j : List ℕ) (used
 
 -- a DMA write begins with a core's numbers and the table t, and comes to the table t′
 pub dma-goes : (base : ℕ) (lent : Lent) (act : Act (Unit {0})) (k : Core) (x : Arrays) (t t′ : List ℕ) (w j : List ℕ) (at : ℕ) {o : Out (Unit {0})}
-    → o ≡ on base lent act (step-told (Going (record { scalars = k .scalars; at = at })) (whole k (tabled x t′)) w j t (x .majors)) → o ≡ go base lent act (worldOf (whole k (tabled x t)) w j at)
-unfolding on step-told
+    → o ≡ on base lent act (cameTo (Going (record { scalars = k .scalars; at = at })) (whole k (tabled x t′)) w j t (x .majors)) → o ≡ go base lent act (worldOf (whole k (tabled x t)) w j at)
+unfolding on cameTo
 dma-goes base lent act k x t t′ w j at f = f
 
 -- ---- read, by the block
@@ -309,13 +308,12 @@ module _ (k : Core) (x : Arrays) (q q′ : List ℕ) (used : ℕ) (j : List ℕ)
 
 -- ---- a device by value
 
-pub made-whole : (c : Asked) (base : ℕ) (d : HeldDevice) (y : Arrays) (w staging j j′ : List ℕ) (used : ℕ) (k : Core) (r : Done) {a : Acted} → k ≡ coreOf d
+pub made-whole : (c : Asked) (base : ℕ) (d : HeldDevice) (y : Arrays) (w staging j j′ : List ℕ) (used : ℕ) (k : Core) (r : Done) {e : HeldDevice} → k ≡ coreOf d
     → toldDone Heard.Nothing r y w staging j′ ≡ after c base (whole k (arraysOf d)) w staging j used
-    → a ≡ record { verdict = r .verdict; used = r .used; device = held (r .core) y } → toldActed a w staging j′ ≡ after c base (view d) w staging j used
+    → e ≡ held (r .core) y → toldActed (record { verdict = r .verdict; used = r .used; device = e }) w staging j′ ≡ after c base (view d) w staging j used
 made-whole c base d y w staging j j′ used k r e f g = rw g (rw e at f)
 
-pub made-heard : (c : Asked) (h : Heard) (base : ℕ) (d : HeldDevice) (y : Arrays) (w staging j j′ : List ℕ) (used : ℕ) (k : Core) (r : Done) {a : Acted} → k ≡ coreOf d
+pub made-heard : (c : Asked) (h : Heard) (base : ℕ) (d : HeldDevice) (y : Arrays) (w staging j j′ : List ℕ) (used : ℕ) (k : Core) (r : Done) {e : HeldDevice} → k ≡ coreOf d
     → toldDone h r y w staging j′ ≡ after c base (whole k (arraysOf d)) w staging j used
-    → a ≡ record { verdict = r .verdict; used = r .used; device = held (r .core) y }
-    → toldHeard (record { verdict = a .verdict; heard = h; used = a .used; device = a .device }) w staging j′ ≡ after c base (view d) w staging j used
+    → e ≡ held (r .core) y → toldHeard (record { verdict = r .verdict; heard = h; used = r .used; device = e }) w staging j′ ≡ after c base (view d) w staging j used
 made-heard c h base d y w staging j j′ used k r e f g = rw g (rw e at f)

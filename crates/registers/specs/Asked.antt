@@ -38,15 +38,15 @@ readSo (suc n) o = toldRead (suc n) 0
 -- ---- acts
 
 -- the number of what is wrong, 0 for nothing, and the act
-unfoldable pub asked : ℕ → Act Heard → ℕ → Device → List ℕ → List ℕ → List ℕ → ℕ → Told
-asked zero m base d w staging j used = toldAfter staging used (perform base (lending (length staging)) m (worldOf d w j used))
-asked (suc n) m base d w staging j used = told (suc n) Heard.Nothing d w staging j used
+unfoldable pub answered : ℕ → Act Heard → ℕ → Device → List ℕ → List ℕ → List ℕ → ℕ → Told
+answered zero m base d w staging j used = toldAfter staging used (perform base (lending (length staging)) m (worldOf d w j used))
+answered (suc n) m base d w staging j used = told (suc n) Heard.Nothing d w staging j used
 
 -- of a write within a block: what it does there, if there is such a register, and whether it is refused by 4
 abbrev pub Writes : Option (Act (Unit {0})) → Bool → Core → Done → Arrays → Arrays → List ℕ → List ℕ → ℕ → Type 0
 Writes does past k r x x′ j j′ used = Proper (whole k x) → (base : ℕ) (w staging : List ℕ)
     → toldDone Heard.Nothing r x′ w staging j′
-    ≡ asked (check (isNone does) 3 (check past 4 (check (badJournal (length j) used) 6 0))) (levelled (orNothing does)) base (whole k x) w staging j used
+    ≡ answered (check (isNone does) 3 (check past 4 (check (badJournal (length j) used) 6 0))) (levelled (orNothing does)) base (whole k x) w staging j used
 
 -- of an act without a store, which came from core k to e
 abbrev pub Stores : Core → Core → Bool → ℕ → Done → List ℕ → List ℕ → Type 0

@@ -26,6 +26,7 @@ ghost use Rattle.rules.specs.declared.Heard.the-variants as Heard;
 ghost use Rattle.rules.specs.View.{view};
 ghost use Rattle.rules.specs.Calls.{badSize, isNone, check, toldReading, afterRead, write as writeCall, inputs as inputsCall, pending as pendingCall, ack};
 ghost use Rattle.rules.specs.Registers.{inBlocks, blockOf, dmaRead, readIn, dmaWrite, controllerWrite};
+ghost use Rattle.act.specs.Lent.{_⇒_};
 ghost use Rattle.intc.specs.Cells.{reads};
 ghost use Rattle.act.specs.Parts.{Arrays, tabled, counted, taking, Calls};
 ghost use Rattle.registers.specs.Asked.{pastEnd, pastPart, readSo, Writes, Stores, Made, MadeHeard};
@@ -130,7 +131,7 @@ fn write_dma(
     used: usize,
 ) -> Done
     requires { ⌜ (off < 0x4000) × (badSize size ≡ false) ⌝ }
-    ensures { λ r. ⌜ ((x : Arrays) → Writes (dmaWrite off size value) (pastEnd off size) k r (tabled (counted x (now (pending .entry))) (now (table .entry))) (tabled (counted x (now (pending .entry))) (now (table .exit))) (now (journal .entry)) (now (journal .exit)) used) ⌝ }
+    ensures { λ r. ⌜ ((x : Arrays) → (Writes (dmaWrite off size value) (pastEnd off size) k r (tabled (counted x (now (pending .entry))) (now (table .entry))) (tabled (counted x (now (pending .entry))) (now (table .exit))) ⇒ journal) used) ⌝ }
 {
     if !dma::edma_known(off, size) {
         return refused(k, Refusal::Register, used);
@@ -157,7 +158,7 @@ fn write_dma(
 // The end of an act that came to the core `e` without a store, and touched the level bytes or not.
 fn stored(k: Core, e: Core, levels: bool, journal: &mut [u8], used: usize) -> Done
     requires { ⌜ used ≤ length (now journal) ⌝ }
-    ensures { λ r. ⌜ Stores k e levels used r (now (journal .entry)) (now (journal .exit)) ⌝ }
+    ensures { λ r. ⌜ Stores k e levels used r ⇒ journal ⌝ }
 {
     let scalars = e.scalars;
     let s = acting::settle(e, Step::Going(Flow { scalars, at: used }));
@@ -175,7 +176,7 @@ fn write_controller(
     used: usize,
 ) -> Done
     requires { ⌜ (c < 3) × (badSize size ≡ false) ⌝ }
-    ensures { λ r. ⌜ ((x : Arrays) → Writes (controllerWrite c off size value) (pastPart off size) k r x x (now (journal .entry)) (now (journal .exit)) used) ⌝ }
+    ensures { λ r. ⌜ ((x : Arrays) → (Writes (controllerWrite c off size value) (pastPart off size) k r x x ⇒ journal) used) ⌝ }
 {
     if past_part(off, size) {
         return refused(k, Refusal::Crossing, used);
@@ -202,7 +203,7 @@ pub fn write_in(
     journal: &mut [u8],
     used: usize,
 ) -> Done
-    ensures { λ r. ⌜ ((x : Arrays) → Calls (writeCall address size value) Heard.Nothing k r (tabled (counted x (now (pending .entry))) (now (table .entry))) (tabled (counted x (now (pending .entry))) (now (table .exit))) (now (journal .entry)) (now (journal .exit)) used) ⌝ }
+    ensures { λ r. ⌜ ((x : Arrays) → (Calls (writeCall address size value) Heard.Nothing k r (tabled (counted x (now (pending .entry))) (now (table .entry))) (tabled (counted x (now (pending .entry))) (now (table .exit))) ⇒ journal) used) ⌝ }
 {
     if asking::bad_size(size) {
         return refused(k, Refusal::Size, used);
@@ -226,7 +227,7 @@ pub fn write(
     journal: &mut [u8],
     used: usize,
 ) -> Acted
-    ensures { λ r. ⌜ Made (writeCall address size value) (view d) used r (now (journal .entry)) (now (journal .exit)) ⌝ }
+    ensures { λ r. ⌜ Made (writeCall address size value) (view d) used r ⇒ journal ⌝ }
 {
     let mut table = d.table;
     let pending = d.pending;
@@ -240,9 +241,16 @@ pub fn write(
         journal,
         used,
     );
-    let mut e = d;
-    e.table = table;
-    act::answer(e, r)
+    let core = r.core;
+    let verdict = r.verdict;
+    let busy = d.busy;
+    let majors = d.majors;
+    let taken = d.taken;
+    Acted {
+        verdict,
+        used: r.used,
+        device: act::device_of(core, table, busy, majors, pending, taken),
+    }
 }
 
 // ---- inputs, pending
@@ -258,7 +266,7 @@ pub fn inputs_in(
     journal: &mut [u8],
     used: usize,
 ) -> Done
-    ensures { λ r. ⌜ ((x : Arrays) → Calls (inputsCall standing lines0 lines1 lines2) Heard.Nothing k r (counted x (now (pending .entry))) (counted x (now (pending .entry))) (now (journal .entry)) (now (journal .exit)) used) ⌝ }
+    ensures { λ r. ⌜ ((x : Arrays) → (Calls (inputsCall standing lines0 lines1 lines2) Heard.Nothing k r (counted x (now (pending .entry))) (counted x (now (pending .entry))) ⇒ journal) used) ⌝ }
 {
     if asking::bad_journal(journal.len(), used) {
         return refused(k, Refusal::Journal, used);
@@ -276,7 +284,7 @@ pub fn inputs(
     journal: &mut [u8],
     used: usize,
 ) -> Acted
-    ensures { λ r. ⌜ Made (inputsCall standing lines0 lines1 lines2) (view d) used r (now (journal .entry)) (now (journal .exit)) ⌝ }
+    ensures { λ r. ⌜ Made (inputsCall standing lines0 lines1 lines2) (view d) used r ⇒ journal ⌝ }
 {
     let pending = d.pending;
     let r = inputs_in(
@@ -289,7 +297,17 @@ pub fn inputs(
         journal,
         used,
     );
-    act::answer(d, r)
+    let core = r.core;
+    let verdict = r.verdict;
+    let table = d.table;
+    let busy = d.busy;
+    let majors = d.majors;
+    let taken = d.taken;
+    Acted {
+        verdict,
+        used: r.used,
+        device: act::device_of(core, table, busy, majors, pending, taken),
+    }
 }
 
 // "Pending: stores a 32-bit count for one channel".
@@ -301,7 +319,7 @@ pub fn pending_in(
     journal: &mut [u8],
     used: usize,
 ) -> Done
-    ensures { λ r. ⌜ ((x : Arrays) → Calls (pendingCall channel count) Heard.Nothing k r (counted x (now (pending .entry))) (counted x (now (pending .exit))) (now (journal .entry)) (now (journal .exit)) used) ⌝ }
+    ensures { λ r. ⌜ ((x : Arrays) → (Calls (pendingCall channel count) Heard.Nothing k r (counted x (now (pending .entry))) (counted x (now (pending .exit))) ⇒ journal) used) ⌝ }
 {
     if asking::bad_journal(journal.len(), used) {
         return refused(k, Refusal::Journal, used);
@@ -328,13 +346,21 @@ pub fn pending_in(
 }
 
 pub fn pending(d: Device, channel: u32, count: u32, journal: &mut [u8], used: usize) -> Acted
-    ensures { λ r. ⌜ Made (pendingCall channel count) (view d) used r (now (journal .entry)) (now (journal .exit)) ⌝ }
+    ensures { λ r. ⌜ Made (pendingCall channel count) (view d) used r ⇒ journal ⌝ }
 {
     let mut counts = d.pending;
     let r = pending_in(act::core_of(d), channel, count, &mut counts, journal, used);
-    let mut e = d;
-    e.pending = counts;
-    act::answer(e, r)
+    let core = r.core;
+    let verdict = r.verdict;
+    let table = d.table;
+    let busy = d.busy;
+    let majors = d.majors;
+    let taken = d.taken;
+    Acted {
+        verdict,
+        used: r.used,
+        device: act::device_of(core, table, busy, majors, counts, taken),
+    }
 }
 
 // ---- acknowledge
@@ -353,7 +379,7 @@ pub fn acknowledge_in(
     journal: &mut [u8],
     used: usize,
 ) -> Answered
-    ensures { λ r. ⌜ ((x : Arrays) → Calls (ack ipl) (r .heard) k (r .done) (taking x (now (taken .entry))) (taking x (now (taken .exit))) (now (journal .entry)) (now (journal .exit)) used) ⌝ }
+    ensures { λ r. ⌜ ((x : Arrays) → (Calls (ack ipl) (r .heard) k (r .done) (taking x (now (taken .entry))) (taking x (now (taken .exit))) ⇒ journal) used) ⌝ }
 {
     if asking::bad_journal(journal.len(), used) {
         return Answered {
@@ -382,21 +408,22 @@ pub fn acknowledge_in(
 }
 
 pub fn acknowledge(d: Device, ipl: u8, journal: &mut [u8], used: usize) -> Acknowledged
-    ensures { λ r. ⌜ MadeHeard ipl (view d) used r (now (journal .entry)) (now (journal .exit)) ⌝ }
+    ensures { λ r. ⌜ MadeHeard ipl (view d) used r ⇒ journal ⌝ }
 {
     let mut taken = d.taken;
     let r = acknowledge_in(act::core_of(d), ipl, &mut taken, journal, used);
     let done = r.done;
     let heard = r.heard;
-    let mut e = d;
-    e.taken = taken;
-    let a = act::answer(e, done);
-    let verdict = a.verdict;
-    let device = a.device;
+    let core = done.core;
+    let verdict = done.verdict;
+    let table = d.table;
+    let busy = d.busy;
+    let majors = d.majors;
+    let pending = d.pending;
     Acknowledged {
         verdict,
         heard,
-        used: a.used,
-        device,
+        used: done.used,
+        device: act::device_of(core, table, busy, majors, pending, taken),
     }
 }

@@ -9,8 +9,8 @@ use borrow.Author.Tests.{eqb-true, eqb-false}
 use lib.Dec.{eqb, leb, ltb}
 use lib.ListN.{length}
 use Rattle.rules.specs.Act.{Act, table}
-use Rattle.rules.specs.Calls.{Asked, write, inputs, pending, run, service, ack, setPending, orNothing, actOf, badSize, isNone, badWindow, badJournal, badTime, check, wrong, wrongBack, wrongRead, Told, told, numberTold, stagingAfter, worldOf, toldAfter, after, heardNothing, afterBack, ToldRead, toldRead, orZero, afterRead}
-use Rattle.rules.specs.Carry.{World, Out, ok, no, fetched, recorded, After, made, unmade, lastLines, written, cleared, leave, perform, go, Lent, lending}
+use Rattle.rules.specs.Calls.{Asked, write, inputs, pending, run, service, ack, orNothing, actOf, badSize, isNone, badWindow, badJournal, badTime, check, wrong, wrongBack, wrongRead, told, numberTold, stagingAfter, worldOf, toldAfter, after, heardNothing, afterBack, toldRead, orZero, afterRead}
+use Rattle.rules.specs.Carry.{World, Out, ok, no, recorded, After, made, unmade, lastLines, written, cleared, leave, perform, go, Lent, lending}
 use Rattle.rules.specs.Fields.{bitsOf, holds, settingOf}
 use Rattle.rules.specs.Registers.{inBlocks, blockOf, offsetOf, writeIn, writeAt, readAt, pastTable, pastWord}
 use Rattle.rules.specs.TakeBack.{takeBack}
@@ -22,7 +22,7 @@ use Rattle.rules.proofs.Each.{Each, at-done, at-endless, at-stage, at-f
 use Rattle.rules.proofs.FieldLaws.{holds-fits}
 use Rattle.rules.proofs.Guards.{goBare, call-bare}
 use Rattle.rules.proofs.Lasts.{act-number, back-refused}
-use Rattle.rules.proofs.Spares.{sparing, levelled-spares, inputs-spare, pending-spares, acknowledge-spares, dma-spares, controller-spares}
+use Rattle.rules.proofs.Aside.{aside, levelled-aside, inputs-aside, pending-aside, acknowledge-aside, dma-aside, controller-aside}
 use Rattle.rules.proofs.Steps.{putting}
 
 -- ---- the numbers, 0 for accepted
@@ -52,14 +52,10 @@ check-among false n next l p q = q
 
 -- ---- a call without a window
 
--- every array may be put
-anyArray : ℕ → Bool
-anyArray k = true
-
-write-aside : (block off size v : ℕ) → Each (sparing anyArray) (orNothing (writeIn block off size v))
-unfolding writeIn anyArray
-write-aside zero off size v = dma-spares off size v
-write-aside (suc c) off size v = controller-spares c off size v refl
+write-aside : (block off size v : ℕ) → Each aside (orNothing (writeIn block off size v))
+unfolding writeIn
+write-aside zero off size v = dma-aside off size v
+write-aside (suc c) off size v = controller-aside c off size v
 
 -- steps that need no staging and keep off the window are refused with 11 only
 Full : {A : Type 0} → Out A → Type 0
@@ -67,7 +63,7 @@ Full (ok a u) = Unit {0}
 Full (no n u) = n ≡ 11
 
 module _ (base : ℕ) (lent : Lent) where
-  aside-full : {t : ℕ → Bool} {A : Type 0} {m : Act A} → Each (sparing t) m → (u : World) → Proper (u .now .dev) → Full (goBare base lent m u)
+  aside-full : {A : Type 0} {m : Act A} → Each aside m → (u : World) → Proper (u .now .dev) → Full (goBare base lent m u)
   unfolding goBare Full
   aside-full at-done u p = tt
   aside-full at-endless u p = refl
@@ -127,7 +123,7 @@ module _ (base : ℕ) (d : Device) (window journal : List ℕ) (used : ℕ) wher
 
   module _ (c : Asked) (staging l : List ℕ) (accepted : among 0 l ≡ true) (full : among 11 l ≡ true) where
     -- without a window
-    aside-among : Each (sparing anyArray) (actOf c) → Proper d → wrong base (length window) (length journal) used c ≡ 0
+    aside-among : Each aside (actOf c) → Proper d → wrong base (length window) (length journal) used c ≡ 0
         → among (numberOfEnd (perform base (lending (length staging)) (actOf c) u)) l ≡ true
     unfolding perform Full u
     aside-among e p right = leave-among u l accepted full (go base (lending (length staging)) (actOf c) u) (λ n v f.
@@ -173,19 +169,19 @@ module _ (base : ℕ) (d : Device) (window journal : List ℕ) (used : ℕ) wher
 
   -- each act's number is 0 or one of its own
   pub act-numbers : (c : Asked) (staging : List ℕ) → Proper d → among (numberTold (after c base d window staging journal used)) (numbersOf c) ≡ true
-  unfolding numbersOf among actOf writeAt anyArray
+  unfolding numbersOf among actOf writeAt
   act-numbers c staging p = by-wrong c staging (numbersOf c) (wrong-among c) (λ e. performed c e)
     where
       performed : (c : Asked) → wrong base (length window) (length journal) used c ≡ 0 → among (numberOfEnd (perform base (lending (length staging)) (actOf c) u)) (numbersOf c) ≡ true
       performed (write address size v) e =
-          aside-among (write address size v) staging (numbersOf (write address size v)) refl refl (levelled-spares _ (write-aside (blockOf address) (offsetOf address) size v)) p e
+          aside-among (write address size v) staging (numbersOf (write address size v)) refl refl (levelled-aside _ (write-aside (blockOf address) (offsetOf address) size v)) p e
       performed (inputs standing l0 l1 l2) e =
-          aside-among (inputs standing l0 l1 l2) staging (numbersOf (inputs standing l0 l1 l2)) refl refl (levelled-spares _ (inputs-spare standing l0 l1 l2)) p e
+          aside-among (inputs standing l0 l1 l2) staging (numbersOf (inputs standing l0 l1 l2)) refl refl (levelled-aside _ (inputs-aside standing l0 l1 l2)) p e
       performed (pending ch count) e =
-          aside-among (pending ch count) staging (numbersOf (pending ch count)) refl refl (levelled-spares _ (pending-spares ch count refl)) p e
+          aside-among (pending ch count) staging (numbersOf (pending ch count)) refl refl (levelled-aside _ (pending-aside ch count)) p e
       performed (run now pace) e = within-among (run now pace) staging (numbersOf (run now pace)) refl refl refl refl
       performed (service now pace) e = within-among (service now pace) staging (numbersOf (service now pace)) refl refl refl refl
-      performed (ack ipl) e = aside-among (ack ipl) staging (numbersOf (ack ipl)) refl refl (acknowledge-spares ipl refl) p e
+      performed (ack ipl) e = aside-among (ack ipl) staging (numbersOf (ack ipl)) refl refl (acknowledge-aside ipl) p e
 
   args-among : among (wrongBack base (length window) (length journal) used) numbersOfBack ≡ true
   unfolding wrongBack among numbersOfBack

@@ -23,7 +23,7 @@ use Rattle.rules.specs.With.{withScalars, withTable, withMajors}
 use Rattle.rules.specs.declared.Refusal.{Refusal}
 use Rattle.rules.specs.declared.Scalars.{Scalars}
 use Rattle.rules.proofs.Steps.{putting, go-done, bind-ok, bind-no, then-ok, change-does}
-use Rattle.act.specs.Worlds.{told}
+use Rattle.act.specs.Worlds.{cameTo}
 use Rattle.act.specs.declared.Flow.{Flow}
 use Rattle.act.specs.declared.Step.{Step}
 use Rattle.act.specs.declared.Step.the-variants.{Going, Refused}
@@ -43,15 +43,15 @@ module _ (base : ℕ) (lent : Lent) (now pace : ℕ) (t : Flow) (w w′ j j′ t
     summed d p = did .does (around d b p)
 
     pub line-broken : (n : Refusal) (c : Flow) → l ≡ Broken n c → (d : Device) (p : List ℕ)
-        → told (Refused n c) (around d b p) w′ j′ tb′ m′ ≡ go base lent (serveLine now pace) (turning d t w j tb b m p)
-    unfolding serveLine told lined
+        → cameTo (Refused n c) (around d b p) w′ j′ tb′ m′ ≡ go base lent (serveLine now pace) (turning d t w j tb b m p)
+    unfolding serveLine cameTo lined
     line-broken n c e d p = sym (bind-no base lent (lineLoop linePasses 0) _ (turning d t w j tb b m p) (sym (rw e at (summed d p))))
 
     pub line-served : (n : ℕ) (c : Flow) → l ≡ Sum n c → (until deadline : ℕ) → until ≡ now + n * pace → until < 2 ^ 64 → deadline ≡ min (c .scalars .deadline) until → deadline < 2 ^ 64
         → (s : Scalars) → viewScalars s ≡ set (viewScalars (c .scalars)) 7 deadline
         → (d : Device) (p : List ℕ)
-        → told (Going (record { scalars = s; at = c .at })) (around d (set b 35 until) p) w′ j′ tb′ m′ ≡ go base lent (serveLine now pace) (turning d t w j tb b m p)
-    unfolding serveLine told lined go put change _>>=_ _>>_ bitsOf withDevice
+        → cameTo (Going (record { scalars = s; at = c .at })) (around d (set b 35 until) p) w′ j′ tb′ m′ ≡ go base lent (serveLine now pace) (turning d t w j tb b m p)
+    unfolding serveLine cameTo lined go put change _>>=_ _>>_ bitsOf withDevice
     line-served n c e until deadline u f q g s v d p =
         rw v (sym (bind-ok base lent (lineLoop linePasses 0) _ (turning d t w j tb b m p) (sym (rw e at (summed d p))) ∙ rw (← u, mod-eq-of-lt f, ← q, mod-eq-of-lt g)))
 
@@ -88,7 +88,7 @@ module _ (base : ℕ) (lent : Lent) (now pace ch : ℕ) (t : Flow) (w j tb b m p
       waits d = served base lent now pace ch (at d) long low ∙ rw (← read, off, ← asked)
 
       pub serve-none : o ≡ false → Turns (serve now pace ch) base lent t (Going t) w w j j tb tb b b m m p p
-      unfolding told go when
+      unfolding cameTo go when
       serve-none e d = sym (waits d ∙ rw e)
 
       module _ (on : o ≡ true) where
@@ -116,7 +116,7 @@ module _ (base : ℕ) (lent : Lent) (now pace ch : ℕ) (t : Flow) (w j tb b m p
     pub turn-deferred : now < getD b ch 0 → (deferred : ℕ) → deferred ≡ gain (t .scalars .deferred) ch → deferred < 2 ^ 64
         → (s : Scalars) → viewScalars s ≡ set (set (viewScalars (t .scalars)) 5 kick) 6 deferred
         → Turns (turn now pace ch) base lent t (Going (record { scalars = s; at = t .at })) w w j j tb tb b b m m p p
-    unfolding told withDevice bitsOf
+    unfolding cameTo withDevice bitsOf
     turn-deferred h deferred e f s v d =
         let u : World = turning d t w j tb b m p in
         let after : viewScalars s ≡ set (set (viewScalars (t .scalars)) 5 (lose (t .scalars .kick) ch)) 6 (gain (t .scalars .deferred) ch) =
@@ -158,30 +158,30 @@ module _ (base : ℕ) (lent : Lent) (now pace n : ℕ) (u : World) where
 module _ (base : ℕ) (lent : Lent) (now pace : ℕ) (whole : Device → Out (Unit {0})) (t : Flow) (w j tb b m p : List ℕ) (left : ℕ)
     (rest : (d : Device) → go base lent (turns now pace left) (turning d t w j tb b m p) ≡ whole d)
   where
-    pub turns-out : left ≤ 0 → (d : Device) → told (Going t) (around d b p) w j tb m ≡ whole d
-    unfolding told turns go
+    pub turns-out : left ≤ 0 → (d : Device) → cameTo (Going t) (around d b p) w j tb m ≡ whole d
+    unfolding cameTo turns go
     turns-out e d = let z : left ≡ 0 = omega arith in rw z at (rest d)
 
     module _ (more : 0 < left) where
       from : (d : Device) → go base lent (turns now pace (suc (left - 1))) (turning d t w j tb b m p) ≡ whole d
       from d = let q : suc (left - 1) ≡ left = omega arith in rw q (rest d)
 
-      pub turns-stop : t .scalars .kick ≡ 0 → (d : Device) → told (Going t) (around d b p) w j tb m ≡ whole d
-      unfolding told
+      pub turns-stop : t .scalars .kick ≡ 0 → (d : Device) → cameTo (Going t) (around d b p) w j tb m ≡ whole d
+      unfolding cameTo
       turns-stop e d = sym (turns-none base lent now pace (left - 1) (turning d t w j tb b m p) e) ∙ from d
 
       module _ (h : t .scalars .kick ≡ 0 → ⊥) (ch : ℕ) (chosen : ch ≡ lowest (t .scalars .kick)) (k : Lent) (same : k ≡ lent) (r : Step) (w′ j′ tb′ b′ m′ p′ : List ℕ)
           (did : Turns (turn now pace ch) base k t r w w′ j j′ tb tb′ b b′ m m′ p p′)
         where
-          ran : (d : Device) → told r (around d b′ p′) w′ j′ tb′ m′ ≡ go base lent (turn now pace (lowest (t .scalars .kick))) (turning d t w j tb b m p)
+          ran : (d : Device) → cameTo r (around d b′ p′) w′ j′ tb′ m′ ≡ go base lent (turn now pace (lowest (t .scalars .kick))) (turning d t w j tb b m p)
           ran d = rw (same, chosen) at (did d)
 
-          pub turns-refused : {n : Refusal} {g : Flow} → r ≡ Refused n g → (d : Device) → told r (around d b′ p′) w′ j′ tb′ m′ ≡ whole d
-          unfolding told
+          pub turns-refused : {n : Refusal} {g : Flow} → r ≡ Refused n g → (d : Device) → cameTo r (around d b′ p′) w′ j′ tb′ m′ ≡ whole d
+          unfolding cameTo
           turns-refused {n} {g} e d =
               rw e (sym (turns-off base lent now pace (left - 1) (turning d t w j tb b m p) h (refusalNumber n) (turning d g w′ j′ tb′ b′ m′ p′) (sym (rw e at (ran d)))) ∙ from d)
 
           pub turns-again : (g : Flow) → r ≡ Going g → (d : Device) → go base lent (turns now pace (left - 1)) (turning d g w′ j′ tb′ b′ m′ p′) ≡ whole d
-          unfolding told
+          unfolding cameTo
           turns-again g e d =
               sym (turns-on base lent now pace (left - 1) (turning d t w j tb b m p) h (turning d g w′ j′ tb′ b′ m′ p′) (sym (rw e at (ran d)))) ∙ from d

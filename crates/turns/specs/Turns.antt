@@ -6,7 +6,7 @@ use Rattle.rules.specs.Act.{Act}
 use Rattle.rules.specs.Carry.{World, go, Lent}
 use Rattle.rules.specs.With.{withPending, withBusy}
 use Rattle.rules.specs.State.{Device}
-use Rattle.act.specs.Worlds.{world, told}
+use Rattle.act.specs.Worlds.{world, cameTo}
 use Rattle.act.specs.declared.Flow.{Flow}
 use Rattle.act.specs.declared.Step.{Step}
 
@@ -20,4 +20,4 @@ turning d t w j tb b m p = world (around d b p) t w j tb m
 
 -- a turn, or a part of one
 abbrev pub Turns : Act (Unit {0}) → ℕ → Lent → Flow → Step → List ℕ → List ℕ → List ℕ → List ℕ → List ℕ → List ℕ → List ℕ → List ℕ → List ℕ → List ℕ → List ℕ → List ℕ → Type 0
-Turns act base lent t r w w′ j j′ tb tb′ b b′ m m′ p p′ = (d : Device) → told r (around d b′ p′) w′ j′ tb′ m′ ≡ go base lent act (turning d t w j tb b m p)
+Turns act base lent t r w w′ j j′ tb tb′ b b′ m m′ p p′ = (d : Device) → cameTo r (around d b′ p′) w′ j′ tb′ m′ ≡ go base lent act (turning d t w j tb b m p)

@@ -8,10 +8,9 @@ use rules::START;
 ghost use mathlib.Core.Path.{_≡_};
 ghost use mathlib.Core.List.{List};
 ghost use Prim.Native.Nat.{ℕ, _^_, _≤_, _<_, min};
-ghost use lib.ListN.{length};
-ghost use Rattle.rules.specs.Carry.{lending};
 ghost use Rattle.rules.specs.Run.{serveLine, serve, turn, runAll, over};
 ghost use Rattle.rules.specs.Words.{lowest};
+ghost use Rattle.act.specs.Lent.{_⇒_, by};
 ghost use Rattle.turns.specs.Frees.{freed, freeing, Frees};
 ghost use Rattle.turns.specs.Turns.{Turns};
 
@@ -37,7 +36,7 @@ pub fn serve_line(
     journal: &mut [u8],
 ) -> Step
     requires { ⌜ (time ≤ 2 ^ 62) × (pace ≤ 1000000) ⌝ }
-    ensures { λ r. ⌜ ((p : List ℕ) → Turns (serveLine time pace) base (lending (length (now (staging .entry)))) t r (now (window .entry)) (now (window .exit)) (now (journal .entry)) (now (journal .exit)) (now (table .entry)) (now (table .exit)) (now (busy .entry)) (now (busy .exit)) (now (majors .entry)) (now (majors .exit)) p p) ⌝ }
+    ensures { λ r. ⌜ ((p : List ℕ) → (Turns (serveLine time pace) base (by staging) t r ⇒ window ⇒ journal ⇒ table ⇒ busy ⇒ majors) p p) ⌝ }
 {
     let l = channel::line_loop(t, base, window, table, majors, staging, journal);
     match l {
@@ -71,7 +70,7 @@ pub fn serve(
     journal: &mut [u8],
 ) -> Step
     requires { ⌜ (ch < 64) × (time ≤ 2 ^ 62) × (pace ≤ 1000000) ⌝ }
-    ensures { λ r. ⌜ Turns (serve time pace ch) base (lending (length (now (staging .entry)))) t r (now (window .entry)) (now (window .exit)) (now (journal .entry)) (now (journal .exit)) (now (table .entry)) (now (table .exit)) (now (busy .entry)) (now (busy .exit)) (now (majors .entry)) (now (majors .exit)) (now (pending .entry)) (now (pending .exit)) ⌝ }
+    ensures { λ r. ⌜ Turns (serve time pace ch) base (by staging) t r ⇒ window ⇒ journal ⇒ table ⇒ busy ⇒ majors ⇒ pending ⌝ }
 {
     if words::has_bit(channel::csr_of(table, ch), START) {
         let before = majors[ch];
@@ -123,7 +122,7 @@ pub fn turn(
     journal: &mut [u8],
 ) -> Step
     requires { ⌜ (ch < 64) × (time ≤ 2 ^ 62) × (pace ≤ 1000000) ⌝ }
-    ensures { λ r. ⌜ Turns (turn time pace ch) base (lending (length (now (staging .entry)))) t r (now (window .entry)) (now (window .exit)) (now (journal .entry)) (now (journal .exit)) (now (table .entry)) (now (table .exit)) (now (busy .entry)) (now (busy .exit)) (now (majors .entry)) (now (majors .exit)) (now (pending .entry)) (now (pending .exit)) ⌝ }
+    ensures { λ r. ⌜ Turns (turn time pace ch) base (by staging) t r ⇒ window ⇒ journal ⇒ table ⇒ busy ⇒ majors ⇒ pending ⌝ }
 {
     let mut n = t.scalars;
     n.kick = words::lose_bit(n.kick, ch);
@@ -179,7 +178,7 @@ pub fn run_dma_inner(
     journal: &mut [u8],
 ) -> Step
     requires { ⌜ (time ≤ 2 ^ 62) × (pace ≤ 1000000) ⌝ }
-    ensures { λ r. ⌜ Turns (runAll time pace) base (lending (length (now (staging .entry)))) t r (now (window .entry)) (now (window .exit)) (now (journal .entry)) (now (journal .exit)) (now (table .entry)) (now (table .exit)) (now (busy .entry)) (now (busy .exit)) (now (majors .entry)) (now (majors .exit)) (now (pending .entry)) (now (pending .exit)) ⌝ }
+    ensures { λ r. ⌜ Turns (runAll time pace) base (by staging) t r ⇒ window ⇒ journal ⇒ table ⇒ busy ⇒ majors ⇒ pending ⌝ }
 {
     let mut s = t;
     let mut left: usize = 4096;
@@ -241,7 +240,7 @@ fn release_one(time: u64, erq: u64, busy: &mut [u64; 64], ch: usize, m: u64) -> 
 
 // All of them, and "those channels with ERQ set".
 pub fn release(time: u64, erq: u64, busy: &mut [u64; 64]) -> u64
-    ensures { λ r. ⌜ Frees time erq r (now (busy .entry)) (now (busy .exit)) ⌝ }
+    ensures { λ r. ⌜ Frees time erq r ⇒ busy ⌝ }
 {
     let mut m = 0;
     let mut ch = 0;

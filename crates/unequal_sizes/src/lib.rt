@@ -10,8 +10,8 @@ ghost use mathlib.Core.List.{[]};
 ghost use mathlib.Core.Path.{_≡_};
 ghost use Prim.Native.Nat.{_+_, _*_, _/_, _^_, _≤_, _<_};
 ghost use lib.ListN.{length, take};
-ghost use Rattle.rules.specs.Carry.{lending};
 ghost use Rattle.rules.specs.Minor.{readUnit, readUnits, readSizes, writeUnits, writeSizes, moveUnequal};
+ghost use Rattle.act.specs.Lent.{_⇒_, by};
 ghost use Rattle.words.specs.Sizes.{Sized};
 ghost use Rattle.words.specs.Widths.{MemoryWidth};
 ghost use Rattle.act.specs.Worlds.{Walks};
@@ -210,7 +210,7 @@ fn write_sizes1(
     at: usize,
 ) -> Wrote
     requires { ⌜ (dmod < 32) × (count * 1 ≤ length (now staging)) ⌝ }
-    ensures { λ r. ⌜ Writes (writeSizes count doff dmod 1 to (now (staging .entry)) 0) base at r (now (window .entry)) (now (window .exit)) (now (journal .entry)) (now (journal .exit)) ⌝ }
+    ensures { λ r. ⌜ Writes (writeSizes count doff dmod 1 to (now (staging .entry)) 0) base at r ⇒ window ⇒ journal ⌝ }
 {
     let mut d = to;
     let mut pos: usize = 0;
@@ -245,7 +245,7 @@ fn write_sizes2(
     at: usize,
 ) -> Wrote
     requires { ⌜ (dmod < 32) × (count * 2 ≤ length (now staging)) ⌝ }
-    ensures { λ r. ⌜ Writes (writeSizes count doff dmod 2 to (now (staging .entry)) 0) base at r (now (window .entry)) (now (window .exit)) (now (journal .entry)) (now (journal .exit)) ⌝ }
+    ensures { λ r. ⌜ Writes (writeSizes count doff dmod 2 to (now (staging .entry)) 0) base at r ⇒ window ⇒ journal ⌝ }
 {
     let mut d = to;
     let mut pos: usize = 0;
@@ -280,7 +280,7 @@ fn write_sizes4(
     at: usize,
 ) -> Wrote
     requires { ⌜ (dmod < 32) × (count * 4 ≤ length (now staging)) ⌝ }
-    ensures { λ r. ⌜ Writes (writeSizes count doff dmod 4 to (now (staging .entry)) 0) base at r (now (window .entry)) (now (window .exit)) (now (journal .entry)) (now (journal .exit)) ⌝ }
+    ensures { λ r. ⌜ Writes (writeSizes count doff dmod 4 to (now (staging .entry)) 0) base at r ⇒ window ⇒ journal ⌝ }
 {
     let mut d = to;
     let mut pos: usize = 0;
@@ -315,7 +315,7 @@ fn write_units4(
     at: usize,
 ) -> Walk
     requires { ⌜ (count ≤ 8) × (pos + count * 4 ≤ length (now staging)) ⌝ }
-    ensures { λ r. ⌜ Walks (writeUnits count 0 4 to (now (staging .entry)) pos) base at r (now (window .entry)) (now (window .exit)) (now (journal .entry)) (now (journal .exit)) ⌝ }
+    ensures { λ r. ⌜ Walks (writeUnits count 0 4 to (now (staging .entry)) pos) base at r ⇒ window ⇒ journal ⌝ }
 {
     let mut end = at;
     let mut k: u32 = 0;
@@ -348,7 +348,7 @@ fn write_bursts(
     at: usize,
 ) -> Wrote
     requires { ⌜ (4 ≤ size) × (size ≤ 32) × (size / 4 * 4 ≡ size) × (dmod < 32) × (count * size ≤ length (now staging)) ⌝ }
-    ensures { λ r. ⌜ Writes (writeSizes count doff dmod size to (now (staging .entry)) 0) base at r (now (window .entry)) (now (window .exit)) (now (journal .entry)) (now (journal .exit)) ⌝ }
+    ensures { λ r. ⌜ Writes (writeSizes count doff dmod size to (now (staging .entry)) 0) base at r ⇒ window ⇒ journal ⌝ }
 {
     let units = size / 4;
     let mut d = to;
@@ -384,7 +384,7 @@ fn write_sizes(
     at: usize,
 ) -> Wrote
     requires { ⌜ (Sized size) × (dmod < 32) × (count * size ≤ length (now staging)) ⌝ }
-    ensures { λ r. ⌜ Writes (writeSizes count doff dmod size to (now (staging .entry)) 0) base at r (now (window .entry)) (now (window .exit)) (now (journal .entry)) (now (journal .exit)) ⌝ }
+    ensures { λ r. ⌜ Writes (writeSizes count doff dmod size to (now (staging .entry)) 0) base at r ⇒ window ⇒ journal ⌝ }
 {
     match size {
         1 => write_sizes1(base, window, count, doff, dmod, to, staging, journal, at),
@@ -421,7 +421,7 @@ pub fn move_unequal(
     at: usize,
 ) -> Moved
     requires { ⌜ (Sized ssize) × (Sized dsize) × (step .smod < 32) × (step .dmod < 32) × (reads * ssize < 2 ^ 32) ⌝ }
-    ensures { λ r. ⌜ Stages (moveUnequal reads (step .soff) (step .smod) (step .doff) (step .dmod) ssize dsize from to) base (lending (length (now (staging .entry)))) at r (now (window .entry)) (now (window .exit)) (now (journal .entry)) (now (journal .exit)) ⌝ }
+    ensures { λ r. ⌜ Stages (moveUnequal reads (step .soff) (step .smod) (step .doff) (step .dmod) ssize dsize from to) base (by staging) at r ⇒ window ⇒ journal ⌝ }
 {
     let total = reads * ssize;
     let all = total as usize;

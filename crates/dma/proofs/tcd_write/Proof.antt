@@ -2,7 +2,7 @@
 use Rattle.dma.proofs.Laws.{table-wide, table-written}
 use Rattle.dma_read.proofs.Laws.{small}
 use Rattle.rules.proofs.Powers.{one-shl}
-use Rattle.act.specs.Worlds.{told}
+use Rattle.act.specs.Worlds.{cameTo}
 use native.Mathlib.Omega.{arith}
 use borrow.Author.Needs.{needs}
 use Rattle.dma.proofs.tcd_write.Statement.{statement}
@@ -27,7 +27,7 @@ returns : tie.Need-returns
 returns c base lent d w m =
     let a = c .before .before .before .before .before .before .before .before .before .args in
     let h = small _ (c .before .before .before .before .before .before .before .before .before .pre .0) in
-    table-written base lent d w (a .off) (a .size) (a .v) (c .before .before .before .before .before .store-table .result) _ _ m (told (a .s) d w (a .journal .now) (a .table .now) m)
+    table-written base lent d w (a .off) (a .size) (a .v) (c .before .before .before .before .before .store-table .result) _ _ m (cameTo (a .s) d w (a .journal .now) (a .table .now) m)
     (omega (arith, c .before .starts .ensures .1, h)) (c .before .starts .ensures .0) (one-shl 64 _ (omega (arith, h)))
     (c .with-kick .ensures base lent d w _ _ m) (c .before .before .before .before .before .store-table .ensures base lent d w m)
 

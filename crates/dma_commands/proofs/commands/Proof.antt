@@ -1,6 +1,6 @@
 -- `dma_commands::commands` meets its contract: one command after another. Assumes nothing.
 use Rattle.dma_commands.proofs.Laws.{in-row}
-use Rattle.act.specs.Worlds.{told}
+use Rattle.act.specs.Worlds.{cameTo}
 use borrow.Author.Needs.{needs}
 use Rattle.dma_commands.proofs.commands.Statement.{statement}
 use Rattle.dma_commands.proofs.commands.Tie as tie
@@ -32,7 +32,7 @@ same-length c = search needs
 returns : tie.Need-returns
 returns c base lent d w m e =
     let a = c .before .before .before .before .before .before .before .before .before .before .before .before .before .before .before .before .before .before .before .before .before .args in
-    in-row base lent (a .k) (a .v) (told (a .s) d w (a .journal .now) (a .table .now) m)
+    in-row base lent (a .k) (a .v) (cameTo (a .s) d w (a .journal .now) (a .table .now) m)
     (c .before .before .before .before .before .before .before .before .before .before .before .before .before .before .before .before .before .command .ensures base lent d w m e)
     (c .before .before .before .before .before .before .before .before .before .before .before .before .command2 .ensures base lent d w m e)
     (c .before .before .before .before .before .before .before .command3 .ensures base lent d w m e)

@@ -5,7 +5,7 @@ use native.Mathlib.Omega.{arith}
 use Rattle.rules.specs.Carry.{Lent}
 use Rattle.dma_commands.proofs.Laws.{flag-turn, flag-end}
 use Rattle.dma_commands.specs.Commands.{flagged}
-use Rattle.act.specs.Worlds.{told, on}
+use Rattle.act.specs.Worlds.{cameTo, on}
 use Rattle.rules.specs.State.{Device}
 use Rattle.rules.specs.Registers.{flagEach}
 use Prim.Native.Nat.{ℕ, _-_, _≤_}
@@ -18,7 +18,7 @@ abbrev Inv-loop : tie.InvT-loop
 Inv-loop table₀ start m journal₀ t₀ ch₀ table journal t ch =
     (ch ≤ 64)
     × (length journal ≡ length journal₀)
-    × ((base : ℕ) (lent : Lent) (d : Device) (w l : List ℕ) → on base lent (flagEach (flagged start) m (64 - ch) ch) (told t d w journal table l) ≡ on base lent (flagEach (flagged start) m 64 0) (told t₀ d w journal₀ table₀ l))
+    × ((base : ℕ) (lent : Lent) (d : Device) (w l : List ℕ) → on base lent (flagEach (flagged start) m (64 - ch) ch) (cameTo t d w journal table l) ≡ on base lent (flagEach (flagged start) m 64 0) (cameTo t₀ d w journal₀ table₀ l))
 
 abbrev μ-loop : tie.MeasureT-loop
 μ-loop table₀ start m journal₀ t₀ ch₀ table journal t ch = 64 - ch

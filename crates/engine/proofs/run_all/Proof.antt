@@ -1,6 +1,6 @@
 -- `engine::run_all` meets its contract. Assumes nothing.
 use lib.ListN.{length}
-use Rattle.engine.proofs.Beginning.{zeros}
+use Rattle.engine.proofs.Starts.{zeros}
 use borrow.Author.Needs.{needs}
 use Rattle.engine.proofs.run_all.Statement.{statement}
 use Rattle.engine.proofs.run_all.Tie as tie

@@ -1,7 +1,7 @@
 -- `engine::run_in` meets its contract. Assumes nothing.
-use Rattle.engine.specs.Runs.{asked}
+use Rattle.engine.specs.Runs.{callOf}
 use Rattle.engine.proofs.Calling.{asked-wrong, refused-told, asked-told}
-use Rattle.engine.proofs.Beginning.{right}
+use Rattle.engine.proofs.Starts.{right}
 use Rattle.acting.proofs.Laws.{stood-new, stood-old}
 use Rattle.act.specs.Parts.{working}
 use Rattle.rules.specs.declared.Heard.the-variants as Heard
@@ -23,7 +23,7 @@ enum-told-2 c = search needs
 returns : tie.Need-returns
 returns c x p =
     let a = c .before .before .before .before .before .before .args in
-    refused-told (a .base) _ _ _ _ (a .used) (asked (a .again) (a .time) (a .pace)) _ (c .before .before .tested .ensures ∙ sym (asked-wrong (a .base) _ _ (a .used) (a .time) (a .pace) (a .again))) (c .enum-told2 .given .1)
+    refused-told (a .base) _ _ _ _ (a .used) (callOf (a .again) (a .time) (a .pace)) _ (c .before .before .tested .ensures ∙ sym (asked-wrong (a .base) _ _ (a .used) (a .time) (a .pace) (a .again))) (c .enum-told2 .given .1)
 
 carried-requires : tie.Need-carried-requires
 carried-requires c κs =

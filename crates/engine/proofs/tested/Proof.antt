@@ -1,5 +1,5 @@
 -- `engine::tested` meets its contract. Assumes nothing.
-use Rattle.engine.proofs.Beginning.{window-bad, journal-bad, time-bad, none-bad}
+use Rattle.engine.proofs.Starts.{window-bad, journal-bad, time-bad, none-bad}
 use borrow.Author.Needs.{needs}
 use Rattle.engine.proofs.tested.Statement.{statement}
 use Rattle.engine.proofs.tested.Tie as tie

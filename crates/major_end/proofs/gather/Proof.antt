@@ -14,7 +14,7 @@ use Rattle.rules.specs.Act.{Act, _>>=_}
 use Rattle.rules.specs.Minor.{gather}
 use Rattle.rules.specs.State.{Device}
 use Rattle.act.proofs.Laws.{stays-so, told-so}
-use Rattle.act.specs.Worlds.{told, on}
+use Rattle.act.specs.Worlds.{cameTo, on}
 use Rattle.memory.proofs.Laws.{at-fits}
 use Rattle.major_end.proofs.Gathering.{gather-outside, gather-inside, gather-end}
 use Rattle.major_end.proofs.gather.Statement.{statement}
@@ -24,7 +24,7 @@ abbrev Inv-loop : tie.InvT-loop
 Inv-loop s base window from next₀ c i₀ next i =
     (i ≤ 32)
     × (length next ≡ 32)
-    × ((lent : Lent) (d : Device) (j t m : List ℕ) (k : List ℕ → Act (Unit {0})) → on base lent (gather (32 - i) (from + i) (take i next) >>= k) (told s d window j t m) ≡ on base lent (gather 32 from [] >>= k) (told s d window j t m))
+    × ((lent : Lent) (d : Device) (j t m : List ℕ) (k : List ℕ → Act (Unit {0})) → on base lent (gather (32 - i) (from + i) (take i next) >>= k) (cameTo s d window j t m) ≡ on base lent (gather 32 from [] >>= k) (cameTo s d window j t m))
 
 abbrev μ-loop : tie.MeasureT-loop
 μ-loop s base window from next₀ c i₀ next i = 32 - i

@@ -13,19 +13,19 @@ core-of-requires c κs = search needs
 acknowledge-in-requires : tie.Need-acknowledge-in-requires
 acknowledge-in-requires c κs = search needs
 
-answer-requires : tie.Need-answer-requires
-answer-requires c κs = search needs
+device-of-requires : tie.Need-device-of-requires
+device-of-requires c κs = search needs
 
 same-length : tie.Need-same-length
 same-length c = search needs
 
 returns : tie.Need-returns
 returns c base w staging =
-    let a = c .before .before .before .before .before .before .before .before .before .before .before .args in
-    made-heard (ack (a .ipl)) _ base (a .d) (taking (arraysOf (a .d)) _) w staging _ _ (a .used) _ _ (c .before .before .before .before .before .before .before .before .core-of .ensures)
-    (c .before .before .before .before .before .acknowledge-in .ensures (arraysOf (a .d)) (rw (c .before .before .before .before .before .before .before .before .core-of .ensures) (typed-proper (a .d) (c .before .before .before .before .before .before .before .before .before .before .before .good .0))) base w staging) (c .before .answer .ensures)
+    let a = c .before .before .before .before .before .before .before .before .before .before .before .before .before .before .before .args in
+    made-heard (ack (a .ipl)) (c .before .before .before .before .before .before .before .before .before .acknowledge-in .result .heard) base (a .d) (taking (arraysOf (a .d)) _) w staging _ _ (a .used) _ (c .before .before .before .before .before .before .before .before .before .acknowledge-in .result .done) (c .before .before .before .before .before .before .before .before .before .before .before .before .core-of .ensures)
+    (c .before .before .before .before .before .before .before .before .before .acknowledge-in .ensures (arraysOf (a .d)) (rw (c .before .before .before .before .before .before .before .before .before .before .before .before .core-of .ensures) (typed-proper (a .d) (c .before .before .before .before .before .before .before .before .before .before .before .before .before .before .before .good .0))) base w staging) (c .device-of .ensures)
 
 pub acknowledge-spec : {M : Type 1} → statement M
 acknowledge-spec =
     tie.close
-    (tie.spec core-of-requires acknowledge-in-requires answer-requires same-length returns)
+    (tie.spec core-of-requires acknowledge-in-requires device-of-requires same-length returns)

@@ -13,18 +13,18 @@ core-of-requires c κs = search needs
 inputs-in-requires : tie.Need-inputs-in-requires
 inputs-in-requires c κs = search needs
 
-answer-requires : tie.Need-answer-requires
-answer-requires c κs = search needs
+device-of-requires : tie.Need-device-of-requires
+device-of-requires c κs = search needs
 
 same-length : tie.Need-same-length
 same-length c = search needs
 
 returns : tie.Need-returns
 returns c base w staging =
-    let a = c .before .before .before .before .before .before .before .before .before .args in
-    made-whole (inputs (a .standing) (a .lines0) (a .lines1) (a .lines2)) base (a .d) (arraysOf (a .d)) w staging _ _ (a .used) _ _ (c .before .before .before .before .before .before .core-of .ensures)
-    (c .before .before .before .inputs-in .ensures (arraysOf (a .d)) (rw (c .before .before .before .before .before .before .core-of .ensures) (typed-proper (a .d) (c .before .before .before .before .before .before .before .before .before .good .0))) base w staging) (c .answer .ensures)
+    let a = c .before .before .before .before .before .before .before .before .before .before .before .before .before .before .args in
+    made-whole (inputs (a .standing) (a .lines0) (a .lines1) (a .lines2)) base (a .d) (arraysOf (a .d)) w staging _ _ (a .used) _ (c .before .before .before .before .before .before .before .before .inputs-in .result) (c .before .before .before .before .before .before .before .before .before .before .before .core-of .ensures)
+    (c .before .before .before .before .before .before .before .before .inputs-in .ensures (arraysOf (a .d)) (rw (c .before .before .before .before .before .before .before .before .before .before .before .core-of .ensures) (typed-proper (a .d) (c .before .before .before .before .before .before .before .before .before .before .before .before .before .before .good .0))) base w staging) (c .device-of .ensures)
 
 pub inputs-spec : {M : Type 1} → statement M
 inputs-spec =
-    tie.close (tie.spec core-of-requires inputs-in-requires answer-requires same-length returns)
+    tie.close (tie.spec core-of-requires inputs-in-requires device-of-requires same-length returns)

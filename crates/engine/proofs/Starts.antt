@@ -1,18 +1,18 @@
 -- How a call begins: refusals 5, 6 and 7 by cases, what holds where none is given, the turns of a run, and a service's. Assumes nothing.
 use mathlib.Core.Bool.{Bool, true, false, not, _||_}
 use mathlib.Core.List.{List, _++_, append-nil}
-use mathlib.Core.Path.{_≡_, refl, sym, ap, _∙_}
-use Prim.Native.Nat.{ℕ, _+_, _-_, _%_, _^_, _≤_, _<_, min}
+use mathlib.Core.Path.{_≡_, refl, ap, _∙_}
+use Prim.Native.Nat.{ℕ, _+_, _-_, _%_, _^_, _≤_, _<_}
 use native.Mathlib.Nat.{lt-of-le-of-lt}
 use native.Mathlib.Omega.{arith}
-use borrow.Author.Tests.{leb-true, leb-false, ltb-false}
+use borrow.Author.Tests.{ltb-false}
 use lib.Bits.{bitAnd, bitOr, or-lt, and-le-l}
-use lib.Dec.{eqb, leb, ltb, lit<}
-use lib.ListN.{length, set, take, drop, replicate, drop-of-length-le}
-use lib.Seq.{take-all, drop-length}
+use lib.Dec.{eqb, ltb, lit<}
+use lib.ListN.{length, set, take, drop, replicate}
+use lib.Seq.{drop-length}
 use Rattle.rules.specs.Act.{ask, put, change}
 use Rattle.rules.specs.Scalars.{ERQ, KICK, DEFERRED, viewScalars}
-use Rattle.rules.specs.Calls.{badWindow, badJournal, badTime, check, wrong, run, worldOf}
+use Rattle.rules.specs.Calls.{badWindow, badJournal, badTime, check, wrong, run}
 use Rattle.rules.specs.Carry.{World, withDevice, go, Lent}
 use Rattle.rules.specs.Fields.{bitsOf, holds, withField}
 use Rattle.rules.specs.Run.{requesting, release, runAll, serviceAll}
@@ -28,7 +28,7 @@ use Rattle.controllers.specs.Waiting.{waitingIn}
 use Rattle.controllers.proofs.InputLaws.{requesting-answers}
 use Rattle.turns.specs.Frees.{Frees}
 use Rattle.act.specs.Parts.{working, whole}
-use Rattle.engine.specs.Runs.{numbered, Offers}
+use Rattle.engine.specs.Runs.{numbered, Begins}
 
 -- ---- refusals 5, 6 and 7
 
@@ -87,10 +87,10 @@ module _ (time : ℕ) (d : Device) (back asking : ℕ) (b : List ℕ) (frees : F
     fits : joined < 2 ^ 64
     fits = or-lt 64 (holds KICK d) _ hk (lt-of-le-of-lt (and-le-l (bitOr back (holds DEFERRED d)) (bitOr asking (holds KICK d))) (or-lt 64 back (holds DEFERRED d) hb hd))
 
-    pub offered-again : (pace base : ℕ) (lent : Lent) (mem used free : List ℕ)
+    pub begun-again : (pace base : ℕ) (lent : Lent) (mem used free : List ℕ)
         → go base lent (serviceAll time pace) (beside mem used free d) ≡ go base lent (runAll time pace) (beside mem used free (withField KICK joined (withField DEFERRED 0 (withBusy d b))))
     unfolding serviceAll Answers withDevice bitsOf
-    offered-again pace base lent mem used free =
+    begun-again pace base lent mem used free =
         let u : World = beside mem used free (withBusy d b) in
         let v : World = beside mem used free (withField DEFERRED 0 (withBusy d b)) in
         let g : ℕ → ℕ = λ k. bitOr k (bitAnd (bitOr back (holds DEFERRED d)) (bitOr asking k)) in
@@ -102,16 +102,16 @@ module _ (time : ℕ) (d : Device) (back asking : ℕ) (b : List ℕ) (frees : F
 
 -- where the turns begin
 
-pub offers-run : (again : Bool) → again ≡ false → (time : ℕ) (s : Scalars) (used : ℕ) (b p : List ℕ) {r : Flow} → r ≡ record { scalars = s; at = used } → Offers again time s r b b p used
-offers-run again h time s used b p e pace base lent k ignore x tb m w j = rw (h, e) refl
+pub begins-run : (again : Bool) → again ≡ false → (time : ℕ) (s : Scalars) (used : ℕ) (b p : List ℕ) {r : Flow} → r ≡ record { scalars = s; at = used } → Begins again time s r b b p used
+begins-run again h time s used b p e pace base lent k ignore x tb m w j = rw (h, e) refl
 
-pub offers-service : (again : Bool) → again ≡ true → (time : ℕ) (s : Scalars) (used : ℕ) (b b′ p : List ℕ) (r : Flow) → Offers true time s r b b′ p used → Offers again time s r b b′ p used
-offers-service again h time s used b b′ p r o pace base lent k ignore x tb m w j = rw h (o pace base lent k ignore x tb m w j)
+pub begins-service : (again : Bool) → again ≡ true → (time : ℕ) (s : Scalars) (used : ℕ) (b b′ p : List ℕ) (r : Flow) → Begins true time s r b b′ p used → Begins again time s r b b′ p used
+begins-service again h time s used b b′ p r o pace base lent k ignore x tb m w j = rw h (o pace base lent k ignore x tb m w j)
 
-pub offers-again : (time : ℕ) (s : Scalars) (used back asking : ℕ) (b b′ p : List ℕ) → Frees time (s .erq) back b b′ → asking ≡ waitingIn p 64 0 (s .standing)
+pub begins-again : (time : ℕ) (s : Scalars) (used back asking : ℕ) (b b′ p : List ℕ) → Frees time (s .erq) back b b′ → asking ≡ waitingIn p 64 0 (s .standing)
     → back < 2 ^ 64 → s .kick < 2 ^ 64 → s .deferred < 2 ^ 64
     → (n : Scalars) → viewScalars n ≡ set (set (viewScalars s) 6 0) 5 (bitOr (s .kick) (bitAnd (bitOr back (s .deferred)) (bitOr asking (s .kick))))
-    → Offers true time s (record { scalars = n; at = used }) b b′ p used
-offers-again time s used back asking b b′ p frees asks hb hk hd n v pace base lent k ignore x tb m w j =
+    → Begins true time s (record { scalars = n; at = used }) b b′ p used
+begins-again time s used back asking b b′ p frees asks hb hk hd n v pace base lent k ignore x tb m w j =
     let d : Device = whole (numbered s k ignore) (working x tb b m p) in
-    rw v (offered-again time d back asking b′ frees (requesting-answers (withBusy d b′) asks) hb hk hd refl pace base lent w (take used j) (drop used j))
+    rw v (begun-again time d back asking b′ frees (requesting-answers (withBusy d b′) asks) hb hk hd refl pace base lent w (take used j) (drop used j))
