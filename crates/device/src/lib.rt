@@ -196,7 +196,7 @@ pub fn with_taken(d: Device, i: usize, v: u64) -> Device
 
 // ---- by number
 
-// Where the field of a number stands: one of the scalars 0 to 9; of a controller, its IMR, FRC, lines or ICONFIG; an element of an array.
+// Where the field of a number stands: one of the scalars; of a controller, its IMR, FRC, lines or ICONFIG; an element of an array.
 enum Spot {
     Nowhere,
     Scalar(usize),

@@ -12,7 +12,7 @@ pub record Controller : Type 0 where
   pub levels : List ℕ
 
 pub record Device : Type 0 where
-  -- the numbers that stand alone, by document 01's numbers 0 to 9 (`Scalars`)
+  -- the numbers that stand alone, by document 01's numbers (`Scalars`)
   pub scalars : List ℕ
   -- the three controllers
   pub controllers : List Controller
