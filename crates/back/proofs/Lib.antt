@@ -1,4 +1,3 @@
-pub mod Widths
 pub mod FindLaws
 pub mod UndoLaws
 pub mod CallLaws

@@ -1,19 +1,19 @@
 -- One sound record undone, by its kind; a group's records undone in turn, last to first. Assumes nothing.
-use mathlib.Core.Bool.{true, false, _&&_, false≢true}
+use mathlib.Core.Bool.{true, false, false≢true}
 use mathlib.Core.List.{List}
 use mathlib.Core.Option.{Option, none, some}
 use mathlib.Core.Path.{_≡_, refl, sym, ap, _∙_}
-use Prim.Native.Nat.{ℕ, zero, suc, _+_, _-_, _*_, _^_, _≤_, _<_}
+use Prim.Native.Nat.{ℕ, zero, suc, _+_, _-_, _*_, _≤_, _<_}
 use native.Mathlib.Omega.{arith}
-use borrow.Author.Tests.{leb-true, ltb-true, ltb-false}
-use lib.Dec.{eqb, leb, ltb}
+use borrow.Author.Tests.{ltb-true, ltb-false, ne-eqb}
+use lib.Dec.{eqb, ltb}
 use lib.ListN.{length, take, drop}
 use lib.Seq.{drop-drop}
-use Rattle.rules.specs.Act.{Space, window, table, Field, SCALAR, MASKS, FORCED, LINES, CONFIG, BUSY, MAJORS, PENDING, SOURCE, TAKEN}
-use Rattle.rules.specs.Bytes.{number, bytes, part, splice}
-use Rattle.rules.specs.Carry.{Machine, Rec, stoodAt, stoodIn, legal, there, bytesOf, withBytesOf, withDevice, indexOf, stored, undoRec, undo}
+use Rattle.rules.specs.Act.{window, table, Field, SCALAR, MASKS, FORCED, LINES, CONFIG, BUSY, MAJORS, PENDING, SOURCE, TAKEN}
+use Rattle.rules.specs.Bytes.{number, part}
+use Rattle.rules.specs.Carry.{Machine, Rec, stoodAt, stoodIn, withDevice, kindOf, undoRec, undo}
 use Rattle.rules.specs.Fields.{fieldAt, fitsSome, withField, withSome, withNumber}
-use Rattle.rules.specs.TakeBack.{kind, width, place, value, marked, soundStore, soundField, soundKind, sound, allSound, recOf, decode, decodeAll}
+use Rattle.rules.specs.TakeBack.{kind, width, place, value, marked, soundField, soundKind, sound, allSound, recOf, decode, decodeAll}
 use Rattle.rules.specs.With.{withTable}
 use Rattle.rules.specs.State.{Device}
 use Rattle.rules.proofs.BoolLaws.{and-left, and-right}
@@ -22,72 +22,32 @@ use Rattle.rules.proofs.Cut.{part-cut}
 use Rattle.memory.specs.Places.{holding}
 use Rattle.scan.proofs.HeadLaws.{number-one}
 use Rattle.scan.proofs.Laws.{sound-same, table-holding}
+use Rattle.journal.specs.Undoing.{Undone, undoAs, undoLine}
+use Rattle.journal.proofs.Back.{SameSizes, store-as}
 use Rattle.back.specs.Standing.{machine, undoStore, undoField, UndoesStore}
 
--- ---- one record: what the code reads of it, and that it is sound
+-- ---- the record of a store
 
-store-legal : (base : ℕ) (m : Machine) (sp : Space) (n a v : ℕ) → soundStore base m sp n a v ≡ true → (legal sp n ≡ true) × (there base sp a n m ≡ true)
-unfolding soundStore
-store-legal base m sp n a v e =
-    let b : legal sp n && there base sp a n m ≡ true = and-left (legal sp n && there base sp a n m) (ltb v (256 ^ n)) e in
-    (and-left (legal sp n) (there base sp a n m) b, and-right (legal sp n) (there base sp a n m) b)
+other-kind : (base k n a v : ℕ) (m : Machine) → (k ≡ 0 → ⊥) → (k ≡ 1 → ⊥) → undoAs base k n a v m ≡ m
+unfolding undoAs
+other-kind base k n a v m p q = rw (ne-eqb k 0 p, ne-eqb k 1 q)
 
-module _ (base : ℕ) (w j : List ℕ) (at : ℕ) {k n a v : ℕ}
-    (kind-is : k ≡ number (part j (at + 2) 1)) (width-is : n ≡ number (part j (at + 3) 1)) (place-is : a ≡ number (part j (at + 4) 4)) (value-is : v ≡ number (part j (at + 8) 8))
-  where
-    kind-read : kind (part j at 16) ≡ k
-    kind-read = getD-part j at 16 2 (omega arith) ∙ sym (kind-is ∙ number-one j (at + 2))
+-- of a sound record: what the journal's undoing does with it is what the rules' does where it is a store's, and nothing where it is a field's
+module _ (base : ℕ) (l w t : List ℕ) (long : length t ≡ 2048) (fair : sound base (holding w) l ≡ true) where
+  sizes : (e : Device) → SameSizes (holding w) (machine w (withTable e t))
+  unfolding holding
+  sizes e = record { memory = refl; table = long ∙ sym (unfold holding in table-holding w) }
 
-    width-read : width (part j at 16) ≡ n
-    width-read = getD-part j at 16 3 (omega arith) ∙ sym (width-is ∙ number-one j (at + 3))
+  by-kind : (e : Device) (k : ℕ) → soundKind base (holding w) k (width l) (place l) (value l) ≡ true
+      → undoAs base k (width l) (place l) (value l) (machine w (withTable e t)) ≡ undoStore base (recOf k (width l) (place l) (value l)) (machine w (withTable e t))
+  unfolding soundKind recOf undoStore undoRec kindOf
+  by-kind e zero s = store-as base window (place l) (width l) (value l) (holding w) (machine w (withTable e t)) (sizes e) s
+  by-kind e (suc zero) s = store-as base table (place l) (width l) (value l) (holding w) (machine w (withTable e t)) (sizes e) s
+  by-kind e (suc (suc k)) s = other-kind base (suc (suc k)) (width l) (place l) (value l) (machine w (withTable e t)) (λ q. omega arith) (λ q. omega arith)
 
-    place-read : place (part j at 16) ≡ a
-    unfolding place
-    place-read = ap number (part-part j at 16 4 4 (omega arith)) ∙ sym place-is
-
-    value-read : value (part j at 16) ≡ v
-    unfolding value
-    value-read = ap number (part-part j at 16 8 8 (omega arith)) ∙ sym value-is
-
-    record-is : decode (part j at 16) ≡ recOf k n a v
-    unfolding decode
-    record-is = rw (kind-read, width-read, place-read, value-read)
-
-    module _ (fair : sound base (holding w) (part j at 16) ≡ true) where
-      kind-fair : soundKind base (holding w) k n a v ≡ true
-      unfolding sound
-      kind-fair = rw (kind-read, width-read, place-read, value-read) at (and-right (marked (part j at 16)) (soundKind base (holding w) (kind (part j at 16)) (width (part j at 16)) (place (part j at 16)) (value (part j at 16))) fair)
-
-      pub memory-fair : k ≡ 0 → (base ≤ a) × (a + n ≤ base + length w) × (legal window n ≡ true)
-      unfolding soundKind there holding
-      memory-fair e =
-          let s = store-legal base (holding w) window n a v (rw e at kind-fair) in
-          (leb-true base a (and-left (leb base a) (leb (a + n) (base + length w)) (s .1)), leb-true (a + n) (base + length w) (and-right (leb base a) (leb (a + n) (base + length w)) (s .1)), s .0)
-
-      pub table-fair : k ≡ 1 → (a + n ≤ 2048) × (legal table n ≡ true)
-      unfolding soundKind there
-      table-fair e =
-          let s = store-legal base (holding w) table n a v (rw e at kind-fair) in
-          (omega (arith, table-holding w, leb-true (a + n) (length (holding w .dev .table)) (s .1)), s .0)
-
-    -- undone in the window w and a table t
-    module _ (t : List ℕ) where
-      pub memory-undone : k ≡ 0 → {w′ : List ℕ} → w′ ≡ splice w (a - base) (bytes n v) → UndoesStore base (decode (part j at 16)) w t w′ t
-      unfolding recOf undoStore undoRec stored withBytesOf bytesOf indexOf
-      memory-undone e h d = rw (record-is, e, h)
-
-      pub table-undone : k ≡ 1 → {t′ : List ℕ} → t′ ≡ splice t a (bytes n v) → UndoesStore base (decode (part j at 16)) w t w t′
-      unfolding recOf undoStore undoRec stored withBytesOf bytesOf indexOf
-      table-undone e h d = rw (record-is, e, h)
-
-      pub none-undone : (k ≡ 0 → ⊥) → (k ≡ 1 → ⊥) → UndoesStore base (decode (part j at 16)) w t w t
-      unfolding recOf undoStore
-      none-undone n₀ n₁ d = rw (record-is, by k refl)
-        where
-          by : (i : ℕ) → k ≡ i → recOf i n a v ≡ stoodIn a v
-          by zero e = absurd (n₀ e)
-          by (suc zero) e = absurd (n₁ e)
-          by (suc (suc i)) e = refl
+  pub store-undone : {w′ t′ : List ℕ} → Undone (undoLine base l) w w′ t t′ → UndoesStore base (decode l) w t w′ t′
+  unfolding undoLine decode sound
+  store-undone h e = h e ∙ by-kind e (kind l) (and-right (marked l) (soundKind base (holding w) (kind l) (width l) (place l) (value l)) fair)
 
 -- ---- the record of a field
 

@@ -7,19 +7,18 @@ use rules::Verdict;
 ghost use mathlib.Core.Path.{_≡_};
 ghost use mathlib.Core.Bool.{true};
 ghost use mathlib.Core.List.{[]};
-ghost use Prim.Native.Nat.{_+_, _-_, _*_, _≤_};
+ghost use Prim.Native.Nat.{_+_, _*_, _≤_};
 ghost use lib.ListN.{length, drop};
 ghost use lib.Dec.{ltb};
 ghost use Rattle.rules.specs.View.{view};
-ghost use Rattle.rules.specs.Act.{window as inWindow};
-ghost use Rattle.rules.specs.Bytes.{bytes, part, splice};
+ghost use Rattle.rules.specs.Bytes.{part};
 ghost use Rattle.rules.specs.Calls.{afterBack, toldActed};
-ghost use Rattle.rules.specs.Carry.{legal, undo};
+ghost use Rattle.rules.specs.Carry.{undo};
 ghost use Rattle.rules.specs.Fields.{fieldAt, fitsSome, withNumber};
-ghost use Rattle.rules.specs.TakeBack.{ends, kind, place, value, sound, allSound, decode, decodeAll};
+ghost use Rattle.rules.specs.TakeBack.{ends, kind, place, value, allSound, decodeAll};
 ghost use Rattle.rules.specs.declared.Verdict.the-variants as How;
 ghost use Rattle.memory.specs.Places.{holding};
-ghost use Rattle.back.specs.Standing.{Finds, machine, UndoesStore};
+ghost use Rattle.back.specs.Standing.{Finds, machine};
 
 // What stands last in the used journal: a sound group, where it starts and how many records it has before its end; or damage.
 enum Standing {
@@ -70,31 +69,6 @@ fn last_group(base: u32, window: &[u8], stands: &[u8]) -> Standing
 
 // ---- undoing it
 
-// The old value of a memory record is laid over the window again.
-fn undo_memory(base: u32, window: &mut [u8], place: u32, width: usize, old: u64)
-    requires { ⌜ (base ≤ place) × (place + width ≤ base + length (now window)) × (legal inWindow width ≡ true) ⌝ }
-    ensures { λ _. ⌜ now (window .exit) ≡ splice (now (window .entry)) (place - base) (bytes width old) ⌝ }
-{
-    let i = (place - base) as usize;
-    words::put_width(window, i, width, old);
-}
-
-// The record of a store undone, in the window or in the table; a field's record changes neither.
-fn undo_store(base: u32, window: &mut [u8], table: &mut [u8; 2048], stands: &[u8], at: usize)
-    requires { ⌜ (at + 16 ≤ length (now stands)) × (sound base (holding (now window)) (part (now stands) at 16) ≡ true) ⌝ }
-    ensures { λ _. ⌜ UndoesStore base (decode (part (now (stands .entry)) at 16)) (now (window .entry)) (now (table .entry)) (now (window .exit)) (now (table .exit)) ⌝ }
-{
-    let kind = words::get1(stands, at + 2);
-    let width = words::get1(stands, at + 3) as usize;
-    let place = words::get4(stands, at + 4);
-    let old = words::get8(stands, at + 8);
-    match kind {
-        0 => undo_memory(base, window, place, width, old),
-        1 => words::put_width(table, place as usize, width, old),
-        _ => (),
-    }
-}
-
 // "Kind 2: field": a sound record that is no store's.
 fn is_field(stands: &[u8], at: usize) -> bool
     requires { ⌜ at + 16 ≤ length (now stands) ⌝ }
@@ -131,7 +105,7 @@ fn undo_group(
     while done < count {
         let last = count - done - 1;
         let at = from + last * 16;
-        undo_store(base, window, &mut table, stands, at);
+        journal::undo_store(base, window, &mut table, stands, at);
         if is_field(stands, at) {
             e = undo_field(e, stands, at);
         }

@@ -1,24 +1,22 @@
 -- How a call ends whose turns came to a world: rolled back where it is refused, and closed where it is not. Assumes nothing.
 use mathlib.Core.Bool.{Bool}
-use mathlib.Core.List.{List, [], _∷_}
+use mathlib.Core.List.{List}
 use mathlib.Core.Path.{_≡_, refl, sym, ap, _∙_, subst}
 use Prim.Native.Nat.{ℕ, _+_, _^_, _≤_}
 use native.Mathlib.Omega.{arith}
 use lib.ListN.{length, replicate, take, drop, length-append, take-append-drop}
 use lib.Seq.{length-take-le}
-use Rattle.rules.specs.Act.{Act, window, table}
+use Rattle.rules.specs.Act.{Act, table}
 use Rattle.rules.specs.Bytes.{Bytes}
 use Rattle.rules.specs.Calls.{told, refusalNumber, levelled, worldOf, toldAfter}
-use Rattle.rules.specs.Carry.{Machine, World, Rec, stoodAt, stoodIn, there, changed, go, unmade, cleared, perform, Lent, lending}
+use Rattle.rules.specs.Carry.{Machine, World, changed, go, unmade, cleared, perform, Lent, lending}
 use Rattle.rules.specs.Fields.{fieldsOf}
-use Rattle.rules.specs.TakeBack.{soundStore}
 use Rattle.rules.specs.State.{Device}
 use Rattle.rules.specs.declared.Heard.{Heard}
 use Rattle.rules.specs.declared.Heard.the-variants as Heard
 use Rattle.rules.specs.declared.Refusal.{Refusal}
 use Rattle.rules.specs.declared.Verdict.{Verdict}
 use Rattle.rules.specs.declared.Verdict.the-variants as Verdict
-use Rattle.rules.proofs.Back.{AllSound}
 use Rattle.rules.proofs.Each.{Proper}
 use Rattle.rules.proofs.Keeps.{AtEnd, Good}
 use Rattle.rules.proofs.Took.{Underway, go-underway}
@@ -31,12 +29,12 @@ use Rattle.act.specs.declared.Flow.{Flow}
 use Rattle.act.specs.declared.Step.{Step}
 use Rattle.act.specs.declared.Step.the-variants.{Going, Refused}
 use Rattle.act.specs.declared.Walk.{Walk}
-use Rattle.journal.specs.Undoing.{RolledBack}
-use Rattle.journal.proofs.Back.{MemorySound, rolled-window, rolled-journal}
+use Rattle.journal.specs.Undoing.{machineOf, RolledBack}
+use Rattle.journal.proofs.Back.{rolled-stores, rolled-journal}
 use Rattle.closing.specs.Closes.{noting, addAll, addEnd, Notes, Part, coreIn}
 use Rattle.closing.specs.declared.Noted.{Noted}
 use Rattle.closing.proofs.Parts.{same, same-part, all-noted}
-use Rattle.acting.specs.Ending.{Settled, Settles, begunAt, endAt, doneBy, remaining}
+use Rattle.acting.specs.Ending.{Settled, Settles, begunAt, endAt, doneBy, remaining, refusedBy}
 use Rattle.acting.specs.declared.Reached.{Reached}
 use Rattle.acting.proofs.Laws.{since-then, front-then, told-made, told-unmade, core-kept, stands-new, stands-old}
 use Rattle.engine.specs.Runs.{RunsAll, Begins, turnsOf, Ended, EndsTurns}
@@ -75,15 +73,6 @@ module _ (k : Core) (s : Reached) (x : Arrays) (tb tb′ b b′ m m′ p p′ : 
       long = sym (since-then k before after Heard.Nothing used w j₀ w′ j j₅ fits (went .since) base lent (levelled act) s n (went .later) (went .left) noted .long) ∙ went .since .long;
     }
 
--- ---- records that are sound where an act began are sound in a window as long
-
-memory-sound : (base : ℕ) (m m′ : Machine) → length (m′ .mem) ≡ length (m .mem) → (log : List Rec) → AllSound base m log → MemorySound base m′ log
-unfolding AllSound MemorySound soundStore there
-memory-sound base m m′ alike [] s = tt
-memory-sound base m m′ alike (stoodAt window a w v ∷ rs) s = (rw alike (s .0), memory-sound base m m′ alike rs (s .1))
-memory-sound base m m′ alike (stoodAt table a w v ∷ rs) s = memory-sound base m m′ alike rs (s .1)
-memory-sound base m m′ alike (stoodIn n v ∷ rs) s = memory-sound base m m′ alike rs (s .1)
-
 -- where a step came to
 at-step : (P : World → Type 0) (s : Step) (d : Device) (w j t m : List ℕ) → AtEnd P (cameTo s d w j t m) → P (world d (flowOf s) w j t m)
 unfolding cameTo
@@ -116,13 +105,18 @@ module _ (base : ℕ) (lent : Lent) (act : Act (Unit {0})) (d : Device) (w j : L
 
     -- the journal may have grown since, past `at`
     module _ (j₂ : List ℕ) (front : take at j₂ ≡ take at j′) (same : length j₂ ≡ length j′) where
-      module _ (w″ j″ : List ℕ) (back : RolledBack base used at w′ j₂ w″ j″) where
+      module _ (w″ t″ j″ : List ℕ) (back : RolledBack base used at w′ w″ tb t″ j₂ j″) where
+        stores-back : asIn d (machineOf w″ t″ d) ≡ u .now
+        stores-back =
+            ap (asIn d) (back .stores-are d)
+            ∙ rolled-stores j₂ (take used j) (way .log) used at (front ∙ way .used-is) begun base d (u .now) (machineOf w′ tb d) (record { memory = way .alike .mem-is; table = way .alike .table-is }) below (good .table-below) (way .all-sound)
+            ∙ ap (asIn d) (way .undone)
+
         window-back : w″ ≡ w
-        window-back =
-            back .window-is
-            ∙ rolled-window j₂ (take used j) (way .log) used at (front ∙ way .used-is) begun base (asIn d (world d′ (flowOf s) w′ j′ tb m .now)) (way .good .mem-below)
-            (memory-sound base (u .now) (asIn d (world d′ (flowOf s) w′ j′ tb m .now)) (way .alike .mem-is) (way .log) (way .all-sound))
-            ∙ ap (λ (x : Machine). x .mem) (way .undone)
+        window-back = ap (λ (x : Machine). x .mem) stores-back
+
+        pub table-back : t″ ≡ d .table
+        table-back = ap (λ (x : Machine). x .dev .table) stores-back
 
         pub told-back : (z : List ℕ) (n : ℕ) → perform base lent (levelled act) u ≡ unmade n (cleared u)
             → told n Heard.Nothing d w″ z j″ used ≡ toldAfter z used (perform base lent (levelled act) u)
@@ -153,13 +147,17 @@ module _ (again : Bool) (time pace base : ℕ) (k : Core) (x : Arrays) (w s j tb
     ended = (rw (same-b, same-m, same-p) at closes) x tb tb′ r base lends (turnsOf again time pace) w j w′ proper fits (settles new base lends (turnsOf again time pace) (whole k old) w j w′ j′ used proper fits goes)
 
     pub carried-made : q .verdict ≡ Verdict.Accepted
-        → toldDone Heard.Nothing q (remaining (q .verdict) old new) w′ s′ j₂ ≡ toldAfter (replicate (length s) 0) used (perform base lends (levelled (turnsOf again time pace)) (worldOf (whole k old) w j used))
-    carried-made v = rw (ran .cleared-staging) (stands-new q old new Heard.Nothing w′ (replicate (length s) 0) j₂ v (ended .told-made (replicate (length s) 0) v))
+        → toldDone Heard.Nothing q (remaining (q .verdict) (working x tb′ b m p) new) w′ s′ j₂ ≡ toldAfter (replicate (length s) 0) used (perform base lends (levelled (turnsOf again time pace)) (worldOf (whole k old) w j used))
+    carried-made v = rw (ran .cleared-staging) (stands-new q (working x tb′ b m p) new Heard.Nothing w′ (replicate (length s) 0) j₂ v (ended .told-made (replicate (length s) 0) v))
 
-    pub carried-unmade : {why : Refusal} → q .verdict ≡ Verdict.Refused why → (w″ j″ : List ℕ) {at : ℕ} → at ≡ flowOf r .at → RolledBack base used at w′ j₂ w″ j″
-        → toldDone Heard.Nothing q (remaining (q .verdict) old new) w″ s′ j″ ≡ toldAfter (replicate (length s) 0) used (perform base lends (levelled (turnsOf again time pace)) (worldOf (whole k old) w j used))
-    carried-unmade {why} v w″ j″ is back =
+    pub carried-unmade : {why : Refusal} → q .verdict ≡ Verdict.Refused why → (w″ t″ j″ : List ℕ) {at : ℕ} → at ≡ flowOf r .at → RolledBack base used at w′ w″ tb′ t″ j₂ j″
+        → toldDone Heard.Nothing q (remaining (q .verdict) (working x t″ b m p) (working x t″ b′ m′ p′)) w″ s′ j″
+        ≡ toldAfter (replicate (length s) 0) used (perform base lends (levelled (turnsOf again time pace)) (worldOf (whole k old) w j used))
+    carried-unmade {why} v w″ t″ j″ is back₀ =
+        let back = rw is at back₀ in
+        let kept : t″ ≡ tb = table-back base lends (turnsOf again time pace) (whole k old) w j used proper bytes below fits r (whole k new) w′ j′ tb′ m′ goes j₂ (ended .front) (ended .long) w″ t″ j″ back in
         rw (ran .cleared-staging)
-        (stands-old q old new Heard.Nothing w″ (replicate (length s) 0) j″ v
-        (ap (λ (z : Done). toldDone Heard.Nothing z old w″ (replicate (length s) 0) j″) (ended .core-kept why v)
-        ∙ told-back base lends (turnsOf again time pace) (whole k old) w j used proper bytes below fits r (whole k new) w′ j′ tb′ m′ goes j₂ (ended .front) (ended .long) w″ j″ (rw is at back) (replicate (length s) 0) (refusalNumber why) (ended .told-unmade why v)))
+        (stands-old q (working x t″ b m p) (working x t″ b′ m′ p′) Heard.Nothing w″ (replicate (length s) 0) j″ v
+        (ap (λ (z : Done). toldDone Heard.Nothing z (working x t″ b m p) w″ (replicate (length s) 0) j″) (ended .core-kept why v)
+        ∙ ap (λ (t : List ℕ). toldDone Heard.Nothing (refusedBy k (Verdict.Refused why) used) (working x t b m p) w″ (replicate (length s) 0) j″) kept
+        ∙ told-back base lends (turnsOf again time pace) (whole k old) w j used proper bytes below fits r (whole k new) w′ j′ tb′ m′ goes j₂ (ended .front) (ended .long) w″ t″ j″ back (replicate (length s) 0) (refusalNumber why) (ended .told-unmade why v)))

@@ -63,11 +63,11 @@ EndsTurns k s used r b b′ m m′ p p′ j j′ = (x : Arrays) (tb tb′ : List
     → Settled k (working x tb′ b′ m′ p′) s₀ s base lent act (whole k (working x tb b m p)) w j₀ w′ j used
     → Ended k (working x tb b m p) (working x tb′ b′ m′ p′) s₀ r base lent act w j₀ w′ j j′ used
 
--- a service or a run, carried out as a call does it, but for the arrays after a refusal
+-- a service or a run, carried out as a call does it, but for busy times, majors and pending counts after a refusal
 abbrev pub Carries : Bool → ℕ → ℕ → ℕ → Core → Done → List ℕ → List ℕ → List ℕ → List ℕ → List ℕ → List ℕ → List ℕ → List ℕ
     → List ℕ → List ℕ → List ℕ → List ℕ → List ℕ → List ℕ → ℕ → Type 0
 Carries again time pace base k r w w′ s s′ j j′ tb tb′ b b′ m m′ p p′ used = (x : Arrays) → Proper (whole k (working x tb b m p))
-    → toldDone Heard.Nothing r (remaining (r .verdict) (working x tb b m p) (working x tb′ b′ m′ p′)) w′ s′ j′
+    → toldDone Heard.Nothing r (remaining (r .verdict) (working x tb′ b m p) (working x tb′ b′ m′ p′)) w′ s′ j′
     ≡ toldAfter (replicate (length s) 0) used (perform base (lending (length s)) (levelled (turnsOf again time pace)) (worldOf (whole k (working x tb b m p)) w j used))
 
 -- the call

@@ -144,7 +144,8 @@ fn end_turns(
 }
 
 // The turns, then "lines and level anew" and the end of the act. 9, 10 or 11 "leaves window, device and used journal as at entry", and "journal
-// bytes past the used length: zero to the end"; but the arrays are left to the caller. `busy`, `majors` and `pending` are those at entry.
+// bytes past the used length: zero to the end"; but busy times, majors and pending counts are left to the caller: `busy`, `majors` and `pending` are
+// those at entry.
 fn carried(
     again: bool,
     k: Core,
@@ -195,7 +196,7 @@ fn carried(
     );
     let verdict = r.verdict;
     let Verdict::Accepted = verdict else {
-        journal::roll_back(base, window, journal, used, act::end_of(s));
+        journal::roll_back(base, window, table, journal, used, act::end_of(s));
         return r;
     };
     r
@@ -228,7 +229,6 @@ pub fn run_in(
             core: k,
         };
     };
-    let table_before = *table;
     let busy_before = *busy;
     let majors_before = *majors;
     let pending_before = *pending;
@@ -252,7 +252,6 @@ pub fn run_in(
     );
     let ended = r.verdict;
     let Verdict::Accepted = ended else {
-        *table = table_before;
         *busy = busy_before;
         *majors = majors_before;
         *pending = pending_before;

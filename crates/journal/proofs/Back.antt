@@ -1,27 +1,29 @@
--- The code's undoing and that of the rules: the window is what the rules' undoing makes of it, by bytes for a group that is taken back, and by
--- records for an act that is rolled back. Assumes nothing.
-use mathlib.Core.Bool.{true, _&&_}
+-- The code's undoing and that of the rules: window and table are what the rules' undoing makes of them. Assumes nothing.
+use mathlib.Core.Bool.{Bool, true, false, cond, _&&_}
+use mathlib.Core.Option.{Option, none, some}
 use mathlib.Core.List.{List, [], _∷_, _++_, append-assoc}
 use mathlib.Core.Path.{_≡_, refl, sym, ap, _∙_}
-use Prim.Native.Nat.{ℕ, zero, suc, _+_, _-_, _*_, _/_, _^_, _≤_, _<_, min}
+use Prim.Native.Nat.{ℕ, _+_, _-_, _*_, _/_, _^_, _≤_, _<_, min}
 use native.Mathlib.Nat.{mul-div-cancel, zero-lt-suc, lt-of-lt-of-le, pow-le-pow-right}
 use native.Mathlib.Omega.{arith}
-use lib.Dec.{leb, ltb}
+use lib.Dec.{eqb, leb, ltb}
 use lib.ListN.{length, take, drop, replicate, length-append, length-take, length-drop, take-append-drop}
 use lib.Seq.{take-at, drop-at, take-take}
-use borrow.Author.Tests.{leb-true, ltb-true, eq-eqb, ne-eqb}
-use Rattle.rules.specs.Act.{window, table}
+use borrow.Author.Tests.{leb-true, ltb-true}
+use Rattle.rules.specs.Act.{Space, window, table, Field, SCALAR, MASKS, FORCED, LINES, CONFIG, BUSY, MAJORS, PENDING, SOURCE, TAKEN}
+use Rattle.rules.specs.Fields.{fieldAt, withSome}
 use Rattle.rules.specs.Bytes.{bytes, part}
 use Rattle.rules.specs.Calls.{worldOf}
 use Rattle.rules.specs.Carry.{Machine, Rec, stoodAt, stoodIn, legal, bytesOf, withBytesOf, withDevice, there, stored, line, kindOf, lineOf, linesOf, cleared, undoRec, undo}
-use Rattle.rules.specs.TakeBack.{kind, width, place, value, soundStore, soundKind, sound, allSound, marked, recOf, decode, decodeAll}
+use Rattle.rules.specs.TakeBack.{kind, width, place, value, soundStore}
 use Rattle.rules.specs.State.{Device}
+use Rattle.rules.specs.With.{withTable}
 use Rattle.rules.proofs.BoolLaws.{and-left, and-right}
-use Rattle.rules.proofs.Back.{length-rec, length-lines}
+use Rattle.rules.proofs.Back.{SoundRec, AllSound, length-rec, length-lines}
+use Rattle.rules.proofs.Undo.{asIn}
 use Rattle.rules.proofs.BytesLaws.{length-splice, value-fits}
-use Rattle.memory.specs.Places.{holding}
-use Rattle.journal.specs.Undoing.{undoLine, undoLines}
-use Rattle.journal.proofs.Laws.{memory-width}
+use Rattle.journal.specs.Undoing.{machineOf, Undone, undoAs, undoLine, undoLines}
+use Rattle.journal.proofs.Laws.{memory-width, legal-width}
 
 -- ---- a record is read back as it was written
 
@@ -34,102 +36,124 @@ module _ (k w a v : ℕ) where
   unfolding value line part bytes
   value-back h = value-fits 8 h
 
+-- ---- window and table in another device
+
+asIn-stored : (base : ℕ) (d : Device) (sp : Space) (a n v : ℕ) (m : Machine) → asIn d (stored base sp a n v m) ≡ stored base sp a n v (asIn d m)
+unfolding stored withBytesOf bytesOf
+asIn-stored base d window a n v m = refl
+asIn-stored base d table a n v m = refl
+
+-- no field is in the table
+table-apart : (o : Option Field) (v : ℕ) (e : Device) → withSome o v e .table ≡ e .table
+table-apart none v e = refl
+table-apart (some (SCALAR i)) v e = refl
+table-apart (some (MASKS c)) v e = refl
+table-apart (some (FORCED c)) v e = refl
+table-apart (some (LINES c)) v e = refl
+table-apart (some (CONFIG c)) v e = refl
+table-apart (some (BUSY ch)) v e = refl
+table-apart (some (MAJORS ch)) v e = refl
+table-apart (some (PENDING ch)) v e = refl
+table-apart (some (SOURCE c s)) v e = refl
+table-apart (some (TAKEN i)) v e = refl
+
+-- as long as it was
+pub record SameSizes (m₀ m : Machine) : Type 0 where
+  pub memory : length (m .mem) ≡ length (m₀ .mem)
+  pub table : length (m .dev .table) ≡ length (m₀ .dev .table)
+
 module _ (base : ℕ) where
-  -- ---- what undoing does to the window's length: nothing
+  there-same : (sp : Space) (a n : ℕ) (m₀ m : Machine) → SameSizes m₀ m → there base sp a n m₀ ≡ true → there base sp a n m ≡ true
+  unfolding there
+  there-same window a n m₀ m s h = rw (s .memory) h
+  there-same table a n m₀ m s h = rw (s .table) h
 
-  rec-length : (r : Rec) (m : Machine) → length (undoRec base r m .mem) ≡ length (m .mem)
-  unfolding undoRec stored withBytesOf bytesOf withDevice
-  rec-length (stoodAt window a w v) m = length-splice (m .mem) _ _
-  rec-length (stoodAt table a w v) m = refl
-  rec-length (stoodIn n v) m = refl
+  stored-sizes : (sp : Space) (a n v : ℕ) (m₀ m : Machine) → SameSizes m₀ m → SameSizes m₀ (stored base sp a n v m)
+  unfolding stored withBytesOf bytesOf
+  stored-sizes window a n v m₀ m s = record { memory = length-splice (m .mem) _ _ ∙ s .memory; table = s .table }
+  stored-sizes table a n v m₀ m s = record { memory = s .memory; table = length-splice (m .dev .table) _ _ ∙ s .table }
 
-  undo-length : (log : List Rec) (m : Machine) → length (undo base log m .mem) ≡ length (m .mem)
-  unfolding undo
-  undo-length [] m = refl
-  undo-length (r ∷ rs) m = rec-length r (undo base rs m) ∙ undo-length rs m
+  -- ---- one record
 
-  -- ---- one record, sound in a machine m₀ whose window is as long
+  -- of a store that is sound in m₀
+  pub store-as : (sp : Space) (a n v : ℕ) (m₀ m : Machine) → SameSizes m₀ m → soundStore base m₀ sp n a v ≡ true → undoAs base (kindOf sp) n a v m ≡ stored base sp a n v m
+  unfolding undoAs kindOf soundStore
+  store-as window a n v m₀ m s h =
+      let first = and-left (legal window n && there base window a n m₀) (ltb v (256 ^ n)) h in
+      let fair = and-left (legal window n) (there base window a n m₀) first in
+      let here : there base window a n m ≡ true = there-same window a n m₀ m s (and-right (legal window n) (there base window a n m₀) first) in
+      rw (fair, here)
+  store-as table a n v m₀ m s h =
+      let first = and-left (legal table n && there base table a n m₀) (ltb v (256 ^ n)) h in
+      let fair = and-left (legal table n) (there base table a n m₀) first in
+      let here : there base table a n m ≡ true = there-same table a n m₀ m s (and-right (legal table n) (there base table a n m₀) first) in
+      rw (fair, here)
 
-  module _ (m₀ m : Machine) (alike : length (m .mem) ≡ length (m₀ .mem)) where
-    memory-line : (l : List ℕ) → kind l ≡ 0 → soundStore base m₀ window (width l) (place l) (value l) ≡ true
-        → undoLine base l (m .mem) ≡ undoRec base (stoodAt window (place l) (width l) (value l)) m .mem
-    unfolding undoLine undoRec stored withBytesOf bytesOf soundStore there holding
-    memory-line l k s =
-        let n : ℕ = width l in
-        let a : ℕ = place l in
-        let first = and-left (legal window n && there base window a n m₀) (ltb (value l) (256 ^ n)) s in
-        let fair = and-left (legal window n) (there base window a n m₀) first in
-        let here = and-right (legal window n) (there base window a n m₀) first in
-        rw (eq-eqb (kind l) 0 k, fair, alike, here)
+  -- whatever it is, window and table stay as long
+  as-sizes : (k n a v : ℕ) (m₀ m : Machine) → SameSizes m₀ m → SameSizes m₀ (undoAs base k n a v m)
+  unfolding undoAs
+  as-sizes k n a v m₀ m s =
+      by (eqb k 0 && legal window n && there base window a n m) (eqb k 1 && legal table n && there base table a n m)
+    where
+      by : (b c : Bool) → SameSizes m₀ (cond b (stored base window a n v m) (cond c (stored base table a n v m) m))
+      by true c = stored-sizes window a n v m₀ m s
+      by false true = stored-sizes table a n v m₀ m s
+      by false false = s
 
-    other-line : (l : List ℕ) → (kind l ≡ 0 → ⊥) → undoLine base l (m .mem) ≡ m .mem
-    unfolding undoLine
-    other-line l k = rw (ne-eqb (kind l) 0 k)
+  pub line-as-long : (l w w′ t t′ : List ℕ) → Undone (undoLine base l) w w′ t t′ → (d : Device) → length t′ ≡ length t
+  unfolding undoLine
+  line-as-long l w w′ t t′ h d =
+      ap (λ (m : Machine). length (m .dev .table)) (h d) ∙ as-sizes (kind l) (width l) (place l) (value l) (machineOf w t d) (machineOf w t d) (record { memory = refl; table = refl }) .table
 
-    decoded-as : (l : List ℕ) (k : ℕ) → kind l ≡ k → soundKind base m₀ k (width l) (place l) (value l) ≡ true
-        → undoLine base l (m .mem) ≡ undoRec base (recOf k (width l) (place l) (value l)) m .mem
-    unfolding soundKind recOf undoRec stored withBytesOf withDevice
-    decoded-as l zero k s = memory-line l k s
-    decoded-as l (suc zero) k s = other-line l (λ z. omega arith)
-    decoded-as l (suc (suc n)) k s = other-line l (λ z. omega arith)
+  -- as an act wrote it: it can be read back
+  module _ (d : Device) (m₀ : Machine) (low : base + length (m₀ .mem) ≤ 2 ^ 32) (table-low : length (m₀ .dev .table) ≤ 2 ^ 32) where
+    there-below : (sp : Space) (a n : ℕ) → 0 < n → there base sp a n m₀ ≡ true → a < 2 ^ 32
+    unfolding there
+    there-below window a n p h = let e = leb-true (a + n) (base + length (m₀ .mem)) (and-right (leb base a) (leb (a + n) (base + length (m₀ .mem))) h) in omega arith
+    there-below table a n p h = let e = leb-true (a + n) (length (m₀ .dev .table)) h in omega arith
 
-  -- ---- a group that is taken back: the records that its bytes spell
+    wide : (sp : Space) (n : ℕ) → legal sp n ≡ true → (0 < n) × (n ≤ 8)
+    wide window n h = let b = memory-width n h in (b .positive, omega (arith, b .most))
+    wide table n h = let b = legal-width n h in (b .positive, b .most)
 
-  pub bytes-undone : (m₀ m : Machine) → length (m .mem) ≡ length (m₀ .mem) → (n : ℕ) (l : List ℕ) → allSound base m₀ n l ≡ true
-      → undoLines base n l (m .mem) ≡ undo base (decodeAll n l) m .mem
-  unfolding allSound sound undoLines undo decodeAll decode
-  bytes-undone m₀ m alike zero l s = refl
-  bytes-undone m₀ m alike (suc n) l s =
-      let first : List ℕ = take 16 l in
-      let rest : List Rec = decodeAll n (drop 16 l) in
-      ap (undoLine base first) (bytes-undone m₀ m alike n (drop 16 l) (and-right (sound base m₀ first) (allSound base m₀ n (drop 16 l)) s))
-      ∙ decoded-as m₀ (undo base rest m) (undo-length rest m ∙ alike) first (kind first) refl
-      (and-right (marked first) (soundKind base m₀ (kind first) (width first) (place first) (value first)) (and-left (sound base m₀ first) (allSound base m₀ n (drop 16 l)) s))
+    store-line : (sp : Space) (a n v : ℕ) (m : Machine) → SameSizes m₀ m → soundStore base m₀ sp n a v ≡ true → undoLine base (lineOf (stoodAt sp a n v)) m ≡ stored base sp a n v m
+    unfolding undoLine lineOf soundStore
+    store-line sp a n v m s h =
+        let first = and-left (legal sp n && there base sp a n m₀) (ltb v (256 ^ n)) h in
+        let size = wide sp n (and-left (legal sp n) (there base sp a n m₀) first) in
+        let small : v < 256 ^ n = ltb-true v (256 ^ n) (and-right (legal sp n && there base sp a n m₀) (ltb v (256 ^ n)) h) in
+        let A : place (line (kindOf sp) n a v) ≡ a = place-back (kindOf sp) n a v (there-below sp a n (size .0) (and-right (legal sp n) (there base sp a n m₀) first)) in
+        let O : value (line (kindOf sp) n a v) ≡ v = value-back (kindOf sp) n a v (lt-of-lt-of-le small (pow-le-pow-right {n = 256} (zero-lt-suc 255) (size .1))) in
+        rw (A, O) (unfold line in store-as sp a n v m₀ m s h)
 
-  -- ---- an act that is rolled back: the records that it made
+    -- ---- an act's records, one after the other
 
-  -- its memory records are sound in m
-  unfoldable pub MemorySound : Machine → List Rec → Type 0
-  MemorySound m [] = Unit {0}
-  MemorySound m (stoodAt window a w v ∷ rs) = (soundStore base m window w a v ≡ true) × MemorySound m rs
-  MemorySound m (stoodAt table a w v ∷ rs) = MemorySound m rs
-  MemorySound m (stoodIn n v ∷ rs) = MemorySound m rs
+    line-sizes : (r : Rec) (m : Machine) → SoundRec base m₀ r → SameSizes m₀ m → SameSizes m₀ (undoLine base (lineOf r) m)
+    line-sizes (stoodAt sp a n v) m h s = rw (store-line sp a n v m s h) (stored-sizes sp a n v m₀ m s)
+    line-sizes (stoodIn n v) m h s = (unfold undoLine undoAs lineOf line in s)
 
-  module _ (m₀ m : Machine) (alike : length (m .mem) ≡ length (m₀ .mem)) (low : base + length (m₀ .mem) ≤ 2 ^ 32) where
-    -- a record that is sound can be read back
-    store-line : (a w v : ℕ) → soundStore base m₀ window w a v ≡ true → undoLine base (lineOf (stoodAt window a w v)) (m .mem) ≡ undoRec base (stoodAt window a w v) m .mem
-    unfolding soundStore legal there lineOf kindOf line
-    store-line a w v s =
-        let first = and-left (legal window w && there base window a w m₀) (ltb v (256 ^ w)) s in
-        let size = memory-width w (and-left (legal window w) (there base window a w m₀) first) in
-        let end : a + w ≤ base + length (m₀ .mem) =
-        leb-true (a + w) (base + length (m₀ .mem)) (and-right (leb base a) (leb (a + w) (base + length (m₀ .mem))) (and-right (legal window w) (there base window a w m₀) first)) in
-        let small : v < 256 ^ w = ltb-true v (256 ^ w) (and-right (legal window w && there base window a w m₀) (ltb v (256 ^ w)) s) in
-        let narrow : w ≤ 8 = omega arith in
-        let A : place (line 0 w a v) ≡ a = place-back 0 w a v (omega arith) in
-        let O : value (line 0 w a v) ≡ v = value-back 0 w a v (lt-of-lt-of-le small (pow-le-pow-right {n = 256} (zero-lt-suc 255) narrow)) in
-        let sound-line : soundStore base m₀ window w (place (line 0 w a v)) (value (line 0 w a v)) ≡ true = rw (A, O) s in
-        memory-line m₀ m alike (line 0 w a v) refl sound-line ∙ rw (A, O)
+    line-undone : (r : Rec) (m m′ : Machine) → SoundRec base m₀ r → SameSizes m₀ m → asIn d m ≡ asIn d m′ → asIn d (undoLine base (lineOf r) m) ≡ asIn d (undoRec base r m′)
+    unfolding undoRec withDevice
+    line-undone (stoodAt sp a n v) m m′ h s e =
+        ap (asIn d) (store-line sp a n v m s h) ∙ asIn-stored base d sp a n v m ∙ ap (stored base sp a n v) e ∙ sym (asIn-stored base d sp a n v m′)
+    line-undone (stoodIn n v) m m′ h s e =
+        let f : asIn d (undoLine base (lineOf (stoodIn n v)) m) ≡ asIn d m′ = (unfold undoLine undoAs lineOf line in e) in
+        f ∙ ap (λ (t : List ℕ). record { mem = m′ .mem; dev = withTable d t }) (sym (table-apart (fieldAt n) v (m′ .dev)))
 
-    log-line : (r : Rec) (rs : List Rec) → MemorySound m₀ (r ∷ rs) → undoLine base (lineOf r) (m .mem) ≡ undoRec base r m .mem
-    unfolding MemorySound lineOf kindOf line undoRec stored withBytesOf withDevice
-    log-line (stoodAt window a w v) rs s = store-line a w v (s .0)
-    log-line (stoodAt table a w v) rs s = other-line m₀ m alike (line 1 w a v) (λ z. omega arith)
-    log-line (stoodIn n v) rs s = other-line m₀ m alike (line 2 8 n v) (λ z. omega arith)
+    lines-sizes : (m : Machine) → SameSizes m₀ m → (log : List Rec) → AllSound base m₀ log → (rest : List ℕ) → SameSizes m₀ (undoLines base (length log) (linesOf log ++ rest) m)
+    unfolding undoLines linesOf AllSound
+    lines-sizes m s [] h rest = s
+    lines-sizes m s (r ∷ rs) h rest =
+        rw (append-assoc (lineOf r) (linesOf rs) rest, take-at (lineOf r) (linesOf rs ++ rest) 16 (length-rec r), drop-at (lineOf r) (linesOf rs ++ rest) 16 (length-rec r))
+        (line-sizes r (undoLines base (length rs) (linesOf rs ++ rest) m) (h .0) (lines-sizes m s rs (h .1) rest))
 
-  sound-rest : (m : Machine) (r : Rec) (rs : List Rec) → MemorySound m (r ∷ rs) → MemorySound m rs
-  unfolding MemorySound
-  sound-rest m (stoodAt window a w v) rs s = s .1
-  sound-rest m (stoodAt table a w v) rs s = s
-  sound-rest m (stoodIn n v) rs s = s
-
-  pub log-undone : (m₀ m : Machine) → length (m .mem) ≡ length (m₀ .mem) → base + length (m₀ .mem) ≤ 2 ^ 32 → (log : List Rec) → MemorySound m₀ log → (rest : List ℕ)
-      → undoLines base (length log) (linesOf log ++ rest) (m .mem) ≡ undo base log m .mem
-  unfolding undoLines linesOf undo
-  log-undone m₀ m alike low [] s rest = refl
-  log-undone m₀ m alike low (r ∷ rs) s rest =
-      rw (append-assoc (lineOf r) (linesOf rs) rest, take-at (lineOf r) (linesOf rs ++ rest) 16 (length-rec r), drop-at (lineOf r) (linesOf rs ++ rest) 16 (length-rec r), log-undone m₀ m alike low rs (sound-rest m₀ r rs s) rest)
-      (log-line m₀ (undo base rs m) (undo-length rs m ∙ alike) low r rs s)
+    pub log-undone : (m : Machine) → SameSizes m₀ m → (log : List Rec) → AllSound base m₀ log → (rest : List ℕ)
+        → asIn d (undoLines base (length log) (linesOf log ++ rest) m) ≡ asIn d (undo base log m)
+    unfolding undoLines linesOf undo AllSound
+    log-undone m s [] h rest = refl
+    log-undone m s (r ∷ rs) h rest =
+        rw (append-assoc (lineOf r) (linesOf rs) rest, take-at (lineOf r) (linesOf rs ++ rest) 16 (length-rec r), drop-at (lineOf r) (linesOf rs ++ rest) 16 (length-rec r))
+        (line-undone r (undoLines base (length rs) (linesOf rs ++ rest) m) (undo base rs m) (h .0) (lines-sizes m s rs (h .1) rest) (log-undone m s rs (h .1) rest))
 
 -- ---- the journal ends at `at`, behind the records of a log that began at `used`
 
@@ -137,21 +161,17 @@ module _ (j before : List ℕ) (log : List Rec) (used at : ℕ) (made : take at 
   records : min at (length j) ≡ used + length log * 16
   records = omega (arith, length-take at j, ap length made, length-append before (linesOf log), length-lines log)
 
-  -- what `roll_back` asks
-  pub rolls : (used ≤ at) × (used ≤ length j)
-  rolls = omega (arith, records)
-
   stretch : drop used j ≡ linesOf log ++ drop at j
   stretch =
       ap (drop used) (sym (take-append-drop at j) ∙ ap (λ (l : List ℕ). l ++ drop at j) made ∙ append-assoc before (linesOf log) (drop at j))
       ∙ drop-at before (linesOf log ++ drop at j) used begun
 
-  -- the window of a machine m, rolled back
-  pub rolled-window : (base : ℕ) (m : Machine) → base + length (m .mem) ≤ 2 ^ 32 → MemorySound base m log
-      → undoLines base ((min at (length j) - used) / 16) (drop used j) (m .mem) ≡ undo base log m .mem
-  rolled-window base m low s =
+  -- window and table of a machine m, rolled back
+  pub rolled-stores : (base : ℕ) (d : Device) (m₀ m : Machine) → SameSizes m₀ m → base + length (m₀ .mem) ≤ 2 ^ 32 → length (m₀ .dev .table) ≤ 2 ^ 32 → AllSound base m₀ log
+      → asIn d (undoLines base ((min at (length j) - used) / 16) (drop used j) m) ≡ asIn d (undo base log m)
+  rolled-stores base d m₀ m sizes low table-low s =
       let e : min at (length j) - used ≡ length log * 16 = omega (arith, records) in
-      rw (e, mul-div-cancel (length log) (zero-lt-suc 15), stretch) (log-undone base m m refl low log s (drop at j))
+      rw (e, mul-div-cancel (length log) (zero-lt-suc 15), stretch) (log-undone base d m₀ low table-low m sizes log s (drop at j))
 
   -- the journal, rolled back to the world that it began in
   pub rolled-journal : (d : Device) (w j₀ : List ℕ) → before ≡ take used j₀ → length j ≡ length j₀ → {j′ : List ℕ} → j′ ≡ take used j ++ replicate (length j - used) 0
@@ -159,5 +179,5 @@ module _ (j before : List ℕ) (log : List Rec) (used at : ℕ) (made : take at 
   unfolding cleared
   rolled-journal d w j₀ first alike e =
       let kept : take used j ≡ take used j₀ =
-      sym (take-take used at j (rolls .0)) ∙ ap (take used) made ∙ take-at before (linesOf log) used begun ∙ first in
+      sym (take-take used at j (omega (arith, records))) ∙ ap (take used) made ∙ take-at before (linesOf log) used begun ∙ first in
       e ∙ rw (kept, alike, length-drop used j₀)

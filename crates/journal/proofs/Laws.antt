@@ -31,6 +31,18 @@ memory-width w e = record { positive = bounds .0; most = bounds .1; one-of = e }
         (or-either (eqb w 1) (eqb w 2) (λ t. omega (arith, eqb-true w 1 t)) (λ t. omega (arith, eqb-true w 2 t)))
         (λ t. omega (arith, eqb-true w 4 t)) e
 
+pub legal-width : (w : ℕ) → legal table w ≡ true → TableWidth w
+unfolding legal
+legal-width w e = record { positive = bounds .0; most = bounds .1; one-of = e }
+  where
+    bounds : (0 < w) × (w ≤ 8)
+    bounds =
+        or-either (eqb w 1 || eqb w 2 || eqb w 4) (eqb w 8)
+        (or-either (eqb w 1 || eqb w 2) (eqb w 4)
+        (or-either (eqb w 1) (eqb w 2) (λ t. omega (arith, eqb-true w 1 t)) (λ t. omega (arith, eqb-true w 2 t)))
+        (λ t. omega (arith, eqb-true w 4 t)))
+        (λ t. omega (arith, eqb-true w 8 t)) e
+
 pub table-width : (w : ℕ) → MemoryWidth w → TableWidth w
 table-width w h = record { positive = h .positive; most = omega arith; one-of = rw (h .one-of) }
 

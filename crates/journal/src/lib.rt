@@ -3,8 +3,9 @@ use act::Flow;
 use act::Step;
 use memory::Place;
 use rules::Refusal;
+ghost use mathlib.Core.List.{List};
 ghost use mathlib.Core.Path.{_≡_};
-ghost use Prim.Native.Nat.{_+_, _-_, _/_, _≤_};
+ghost use Prim.Native.Nat.{ℕ, _+_, _-_, _/_, _≤_};
 ghost use lib.Dec.{leb};
 ghost use lib.ListN.{length, drop};
 ghost use Rattle.rules.specs.Act.{store, window as inWindow, table as inTable};
@@ -13,7 +14,7 @@ ghost use Rattle.rules.specs.Carry.{legal, line};
 ghost use Rattle.act.specs.Lent.{_⇒_};
 ghost use Rattle.act.specs.Worlds.{OnTable};
 ghost use Rattle.words.specs.Widths.{TableWidth};
-ghost use Rattle.journal.specs.Undoing.{undoLine, undoLines, RolledBack};
+ghost use Rattle.journal.specs.Undoing.{Undone, undoAs, undoLine, undoLines, RolledBack};
 
 // ---- records
 
@@ -85,19 +86,23 @@ pub fn is_memory_width(width: usize) -> bool
     }
 }
 
-// Lays the old value of the record at `p` over the window again. A record of another kind, and one whose width or place does not fit the
-// window, is passed over.
-fn undo_one(base: u32, window: &mut [u8], journal: &[u8], p: usize)
-    requires { ⌜ p + 16 ≤ length (now journal) ⌝ }
-    ensures { λ _. ⌜ now (window .exit) ≡ undoLine base (part (now (journal .entry)) p 16) (now (window .entry)) ⌝ }
+// "Kind 1: descriptor store (1, 2, 4, 8; table offset)."
+pub fn is_table_width(width: usize) -> bool
+    ensures { λ r. ⌜ r ≡ legal inTable width ⌝ }
 {
-    let kind = words::get1(journal, p + 2);
-    let width = words::get1(journal, p + 3) as usize;
-    let place = words::get4(journal, p + 4);
-    let old = words::get8(journal, p + 8);
-    if kind != 0 {
-        return;
+    match width {
+        1 => true,
+        2 => true,
+        4 => true,
+        8 => true,
+        _ => false,
     }
+}
+
+// The record of a memory store: its old value is laid over the window again, if its width and place fit it.
+fn undo_memory(base: u32, window: &mut [u8], place: u32, width: usize, old: u64)
+    ensures { λ _. ⌜ ((t : List ℕ) → (Undone (undoAs base 0 width place old) ⇒ window) t t) ⌝ }
+{
     if !is_memory_width(width) {
         return;
     }
@@ -105,6 +110,36 @@ fn undo_one(base: u32, window: &mut [u8], journal: &[u8], p: usize)
         return;
     };
     words::put_width(window, i, width, old);
+}
+
+// The record of a descriptor store, the same with the table.
+fn undo_table(table: &mut [u8], place: u32, width: usize, old: u64)
+    ensures { λ _. ⌜ ((base : ℕ) (w : List ℕ) → (Undone (undoAs base 1 width place old) w w ⇒ table)) ⌝ }
+{
+    if !is_table_width(width) {
+        return;
+    }
+    let at = place as usize;
+    if table.len() < at + width {
+        return;
+    }
+    words::put_width(table, at, width, old);
+}
+
+// The record of a store at `p` undone. A record of another kind, and one whose width or place does not fit, is passed over.
+pub fn undo_store(base: u32, window: &mut [u8], table: &mut [u8; 2048], journal: &[u8], p: usize)
+    requires { ⌜ p + 16 ≤ length (now journal) ⌝ }
+    ensures { λ _. ⌜ Undone (undoLine base (part (now (journal .entry)) p 16)) ⇒ window ⇒ table ⌝ }
+{
+    let kind = words::get1(journal, p + 2);
+    let width = words::get1(journal, p + 3) as usize;
+    let place = words::get4(journal, p + 4);
+    let old = words::get8(journal, p + 8);
+    match kind {
+        0 => undo_memory(base, window, place, width, old),
+        1 => undo_table(table, place, width, old),
+        _ => (),
+    }
 }
 
 // How far it is from `from` to `to`: 0 where that is before.
@@ -117,28 +152,42 @@ pub fn span(from: usize, to: usize) -> usize
     to - from
 }
 
-// Undoes the memory records from `from` up to `to`: none where that is before. "Undoing goes last to first."
-fn undo_window(base: u32, window: &mut [u8], journal: &[u8], from: usize, to: usize)
+// Undoes the records of stores from `from` up to `to`: none where that is before. "Undoing goes last to first."
+fn undo_stores(
+    base: u32,
+    window: &mut [u8],
+    table: &mut [u8; 2048],
+    journal: &[u8],
+    from: usize,
+    to: usize,
+)
     requires { ⌜ to ≤ length (now journal) ⌝ }
-    ensures { λ _. ⌜ now (window .exit) ≡ undoLines base ((to - from) / 16) (drop from (now (journal .entry))) (now (window .entry)) ⌝ }
+    ensures { λ _. ⌜ Undone (undoLines base ((to - from) / 16) (drop from (now (journal .entry)))) ⇒ window ⇒ table ⌝ }
 {
     let count = span(from, to) / 16;
     let mut done = 0;
     while done < count {
         let last = count - done - 1;
-        undo_one(base, window, journal, from + last * 16);
+        undo_store(base, window, table, journal, from + last * 16);
         done += 1;
     }
 }
 
-// Takes back the stores in the window since the journal ended at `used`, where it ends at `at` now. "Journal bytes past the used length: zero
+// Takes back the stores in window and table since the journal ended at `used`, where it ends at `at` now. "Journal bytes past the used length: zero
 // to the end." An `at` past the journal's end counts as the end: both stand for the same world, so no contract of a caller can rule it out.
-pub fn roll_back(base: u32, window: &mut [u8], journal: &mut [u8], used: usize, at: usize)
+pub fn roll_back(
+    base: u32,
+    window: &mut [u8],
+    table: &mut [u8; 2048],
+    journal: &mut [u8],
+    used: usize,
+    at: usize,
+)
     requires { ⌜ used ≤ length (now journal) ⌝ }
-    ensures { λ _. ⌜ RolledBack base used at (now (window .entry)) (now (journal .entry)) (now (window .exit)) (now (journal .exit)) ⌝ }
+    ensures { λ _. ⌜ RolledBack base used at ⇒ window ⇒ table ⇒ journal ⌝ }
 {
     let len = journal.len();
     let end = words::least(at, len);
-    undo_window(base, window, journal, used, end);
+    undo_stores(base, window, table, journal, used, end);
     words::clear(journal, used, len);
 }

@@ -6,7 +6,6 @@ ghost use Prim.Native.Nat.{ℕ, _+_, _*_, _≤_};
 ghost use lib.ListN.{length, drop};
 ghost use Rattle.rules.specs.Act.{window as inWindow, table as inTable};
 ghost use Rattle.rules.specs.Bytes.{part};
-ghost use Rattle.rules.specs.Carry.{legal};
 ghost use Rattle.rules.specs.TakeBack.{marked, soundStore, soundField};
 ghost use Rattle.memory.specs.Places.{holding};
 ghost use Rattle.scan.specs.Heads.{Judges, Scanned, soundWith};
@@ -28,19 +27,6 @@ pub fn is_marked(journal: &[u8], at: usize) -> bool
     journal[at + 1] == 0x52
 }
 
-// "Kind 1: descriptor store (1, 2, 4, 8; table offset)."
-fn is_table_width(width: usize) -> bool
-    ensures { λ r. ⌜ r ≡ legal inTable width ⌝ }
-{
-    match width {
-        1 => true,
-        2 => true,
-        4 => true,
-        8 => true,
-        _ => false,
-    }
-}
-
 // A memory record: "a wrong .. width", "a place outside .. window". Its value may take as many bytes as it is wide.
 fn window_head(base: u32, window: &[u8], place: u32, width: usize) -> Head
     ensures { λ r. ⌜ Judges r (soundStore base (holding (now (window .entry))) inWindow width place) ⌝ }
@@ -58,7 +44,7 @@ fn window_head(base: u32, window: &[u8], place: u32, width: usize) -> Head
 fn table_head(place: u32, width: usize) -> Head
     ensures { λ r. ⌜ ((base : ℕ) (w : List ℕ) → Judges r (soundStore base (holding w) inTable width place)) ⌝ }
 {
-    if !is_table_width(width) {
+    if !journal::is_table_width(width) {
         return Head::Damaged;
     }
     if 2048 < (place as usize) + width {

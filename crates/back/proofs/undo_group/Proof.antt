@@ -1,5 +1,7 @@
 -- `back::undo_group` meets its contract. The invariant: undoing the records that are left, here and now, is undoing all of them at the start. Assumes nothing.
-use Rattle.back.proofs.UndoLaws.{undo-turn, still-sound, undo-none, field-held, field-so, store-so, both-undone}
+use Rattle.rules.proofs.Typed.{table-size}
+use Rattle.journal.proofs.Back.{line-as-long}
+use Rattle.back.proofs.UndoLaws.{undo-turn, still-sound, undo-none, field-held, field-so, store-so, store-undone, both-undone}
 use Rattle.back.specs.Standing.{machine}
 use Rattle.rules.specs.TakeBack.{decodeAll}
 use Rattle.rules.specs.Carry.{undo}
@@ -16,13 +18,13 @@ use Rattle.back.proofs.undo_group.Tie as tie
 
 abbrev Inv-loop : tie.InvT-loop
 Inv-loop base window₀ stands from count table₀ e₀ done₀ window table e done =
-    (done ≤ count) × (undo base (decodeAll (count - done) (drop from stands)) (machine window (withTable (view e) table)) ≡ undo base (decodeAll count (drop from stands)) (machine window₀ (withTable (view e₀) table₀))) × (length window ≡ length window₀)
+    (done ≤ count) × (undo base (decodeAll (count - done) (drop from stands)) (machine window (withTable (view e) table)) ≡ undo base (decodeAll count (drop from stands)) (machine window₀ (withTable (view e₀) table₀))) × (length window ≡ length window₀) × (length table ≡ 2048)
 
 abbrev μ-loop : tie.MeasureT-loop
 μ-loop base window₀ stands from count table₀ e₀ done₀ window table e done = count - done
 
 loop-holds : tie.Need-loop-holds Inv-loop μ-loop
-loop-holds c = (omega arith, rw sub-zero, refl)
+loop-holds c = (omega arith, rw sub-zero, refl, table-size (c .before .before .before .args .d) (c .before .before .before .good .0))
 
 sub-last : tie.Need-sub-last Inv-loop μ-loop
 sub-last c = omega arith
@@ -37,7 +39,7 @@ add-at : tie.Need-add-at Inv-loop μ-loop
 add-at c = omega arith
 
 undo-store-requires : tie.Need-undo-store-requires Inv-loop μ-loop
-undo-store-requires c κs = (omega arith, still-sound _ _ _ _ (omega arith) _ _ (c .before .before .before .loop .inv .2) (c .before .before .before .before .before .before .before .pre .1) _ (omega arith))
+undo-store-requires c κs = omega arith
 
 is-field-requires : tie.Need-is-field-requires Inv-loop μ-loop
 is-field-requires c κs = omega arith
@@ -55,8 +57,12 @@ loop-again : tie.Need-loop-again Inv-loop μ-loop
 loop-again c =
     let one = c .before .before .before .before .undo-store in
     let inv = c .before .before .before .before .before .before .before .before .loop .inv in
-    let field = c .before .is-field .ensures in
-    (omega arith, undo-turn _ _ _ _ (omega arith) _ (omega arith) _ (both-undone _ _ _ _ _ _ (view (c .before .before .before .before .before .before .before .before .loop .e)) {e = view (c .if1 .e)} (one .ensures) (⊎-elim (λ p. field-so _ _ (sym field ∙ p .0 .taken) (ap view (p .2) ∙ p .1 .ensures)) (λ p. store-so _ _ (sym field ∙ p .0 .left) (ap view (p .1))) (c .if1 .came))) ∙ inv .1, omega (arith, one .kept .1 .0))
+    let field = c .before .is-field .ensures in (
+      omega arith,
+      undo-turn _ _ _ _ (omega arith) _ (omega arith) _ (both-undone _ _ _ _ _ _ (view (c .before .before .before .before .before .before .before .before .loop .e)) {e = view (c .if1 .e)} (store-undone _ _ _ _ (inv .3) (still-sound _ _ _ _ (omega arith) _ (c .before .before .before .before .before .before .before .before .loop .window) (inv .2) (c .before .before .before .before .before .before .before .before .before .before .before .before .pre .1) _ (omega arith)) (one .ensures)) (⊎-elim (λ p. field-so _ _ (sym field ∙ p .0 .taken) (ap view (p .2) ∙ p .1 .ensures)) (λ p. store-so _ _ (sym field ∙ p .0 .left) (ap view (p .1))) (c .if1 .came))) ∙ inv .1,
+      omega (arith, one .kept .1 .0),
+      line-as-long _ _ _ _ _ _ (one .ensures) (view (c .before .before .before .before .before .before .before .before .loop .e)) ∙ inv .3,
+    )
 
 same-length : tie.Need-same-length Inv-loop μ-loop
 same-length c = omega arith

@@ -27,8 +27,8 @@ returns c x p =
 
 carried-requires : tie.Need-carried-requires
 carried-requires c κs =
-    let a = c .before .before .before .before .before .before .before .before .before .before .before .before .before .before .before .before .before .before .before .before .args in
-    let r = right (a .base) _ _ (a .used) (a .time) (a .pace) (sym (c .before .before .before .before .before .before .before .before .before .before .before .before .before .before .before .before .tested .ensures) ∙ ap verdictNumber (c .before .before .before .before .before .before .before .before .before .before .before .before .before .before .enum-told .given .1)) in
+    let a = c .before .before .before .before .before .before .before .before .before .before .before .before .before .before .before .before .before .before .before .args in
+    let r = right (a .base) _ _ (a .used) (a .time) (a .pace) (sym (c .before .before .before .before .before .before .before .before .before .before .before .before .before .before .before .tested .ensures) ∙ ap verdictNumber (c .before .before .before .before .before .before .before .before .before .before .before .before .before .enum-told .given .1)) in
     (r .early, r .slow, r .within, r .below, refl, refl, refl)
 
 enum-told-3 : tie.Need-enum-told-3
@@ -48,8 +48,8 @@ same-length-3 c = search needs
 
 returns-2 : tie.Need-returns-2
 returns-2 c x p =
-    let a = c .before .before .before .before .before .before .before .before .before .before .before .before .before .before .before .before .before .before .before .before .before .before .before .before .before .before .before .before .before .args in
-    asked-told (a .base) _ _ _ _ (a .used) (a .time) (a .pace) _ (a .again) (sym (c .before .before .before .before .before .before .before .before .before .before .before .before .before .before .before .before .before .before .before .before .before .before .before .before .before .tested .ensures) ∙ ap verdictNumber (c .before .before .before .before .before .before .before .before .before .before .before .before .before .before .before .before .before .before .before .before .before .before .before .enum-told .given .1))
+    let a = c .before .before .before .before .before .before .before .before .before .before .before .before .before .before .before .before .before .before .before .before .before .before .before .before .before .before .before .before .args in
+    asked-told (a .base) _ _ _ _ (a .used) (a .time) (a .pace) _ (a .again) (sym (c .before .before .before .before .before .before .before .before .before .before .before .before .before .before .before .before .before .before .before .before .before .before .before .before .tested .ensures) ∙ ap verdictNumber (c .before .before .before .before .before .before .before .before .before .before .before .before .before .before .before .before .before .before .before .before .before .before .enum-told .given .1))
     (stood-old (c .before .before .before .before .before .before .before .before .carried .result) (working x _ _ _ _) (working x _ _ _ _) Heard.Nothing _ _ _ (c .enum-told4 .given .1) (c .before .before .before .before .before .before .before .before .carried .ensures x p))
 
 same-length-4 : tie.Need-same-length-4
@@ -63,8 +63,8 @@ same-length-6 c = search needs
 
 returns-3 : tie.Need-returns-3
 returns-3 c x p =
-    let a = c .before .before .before .before .before .before .before .before .before .before .before .before .before .before .before .before .before .before .before .before .before .before .before .before .before .before .before .before .before .args in
-    asked-told (a .base) _ _ _ _ (a .used) (a .time) (a .pace) _ (a .again) (sym (c .before .before .before .before .before .before .before .before .before .before .before .before .before .before .before .before .before .before .before .before .before .before .before .before .before .tested .ensures) ∙ ap verdictNumber (c .before .before .before .before .before .before .before .before .before .before .before .before .before .before .before .before .before .before .before .before .before .before .before .enum-told .given .1))
+    let a = c .before .before .before .before .before .before .before .before .before .before .before .before .before .before .before .before .before .before .before .before .before .before .before .before .before .before .before .before .args in
+    asked-told (a .base) _ _ _ _ (a .used) (a .time) (a .pace) _ (a .again) (sym (c .before .before .before .before .before .before .before .before .before .before .before .before .before .before .before .before .before .before .before .before .before .before .before .before .tested .ensures) ∙ ap verdictNumber (c .before .before .before .before .before .before .before .before .before .before .before .before .before .before .before .before .before .before .before .before .before .before .enum-told .given .1))
     (stood-new (c .before .before .before .before .before .before .before .before .carried .result) (working x _ _ _ _) (working x _ _ _ _) Heard.Nothing _ _ _ (c .enum-told3 .given .1) (c .before .before .before .before .before .before .before .before .carried .ensures x p))
 
 pub run-in-spec : {M : Type 1} → statement M

@@ -7,8 +7,8 @@ use Rattle.journal.proofs.roll_back.Tie as tie
 least-requires : tie.Need-least-requires
 least-requires c κs = search needs
 
-undo-window-requires : tie.Need-undo-window-requires
-undo-window-requires c κs = search needs
+undo-stores-requires : tie.Need-undo-stores-requires
+undo-stores-requires c κs = search needs
 
 clear-requires : tie.Need-clear-requires
 clear-requires c κs = search needs
@@ -21,16 +21,13 @@ same-length-2 c = search needs
 
 returns : tie.Need-returns
 returns c =
-    let wipe = c .before .before in
-    let undone = wipe .before .before .before .before in
-    let end = undone .before .before .before in
-    let a = end .before .before .before .args in
+    let a = c .before .before .before .before .before .before .before .before .before .before .before .before .before .args in
     record {
-      window-is = rw (← end .least .ensures) (undone .undo-window .ensures);
-      journal-is = zeros-to-end (a .used) (a .journal .now) (wipe .clear .ensures);
+      stores-are = λ d. rw (← c .before .before .before .before .before .before .before .before .before .before .least .ensures) (c .before .before .before .before .before .before .undo-stores .ensures d);
+      journal-is = zeros-to-end (a .used) (a .journal .now) (c .before .before .clear .ensures);
     }
 
 pub roll-back-spec : {M : Type 1} → statement M
 roll-back-spec =
     tie.close
-    (tie.spec least-requires undo-window-requires clear-requires same-length same-length-2 returns)
+    (tie.spec least-requires undo-stores-requires clear-requires same-length same-length-2 returns)

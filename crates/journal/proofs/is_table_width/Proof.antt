@@ -1,8 +1,8 @@
--- `scan::is_table_width` meets its contract: each width by itself, and any other. Assumes nothing.
+-- `journal::is_table_width` meets its contract: each width by itself, and any other. Assumes nothing.
 use borrow.Author.Tests.{ne-eqb}
 use Rattle.rules.specs.Carry.{legal}
-use Rattle.scan.proofs.is_table_width.Statement.{statement}
-use Rattle.scan.proofs.is_table_width.Tie as tie
+use Rattle.journal.proofs.is_table_width.Statement.{statement}
+use Rattle.journal.proofs.is_table_width.Tie as tie
 
 returns : tie.Need-returns
 unfolding legal
