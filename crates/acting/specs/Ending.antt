@@ -35,7 +35,7 @@ arrivedAt (Off why at) h d w j = no (refusalNumber why) (worldOf d w j at)
 abbrev pub arrived : Heard → Reached → Arrays → List ℕ → List ℕ → Out Heard
 arrived h s x w j = arrivedAt (s .walk) h (whole (s .core) x) w j
 
--- it is not before the used length that it began with, nor past the journal's end
+-- where it came on, the used length that it began with is past neither the end it came to nor the journal's last byte
 abbrev pub Later : ℕ → Walk → List ℕ → Type 0
 Later used (On at) j = used ≤ min at (length j)
 Later used (Off why at) j = Unit {0}
