@@ -1,7 +1,7 @@
 // The leaves of the engine: sizes, sums of addresses, big-endian words, counts with a link, masks of 64 bits, zeros.
 // Each contract is an equation with a definition of crate `rules` (specs/Words.antt, specs/Bytes.antt). Quoted words are document 01's.
 ghost use mathlib.Core.Path.{_≡_};
-ghost use mathlib.Core.List.{_++_};
+ghost use mathlib.Core.List.{_++_, reverse};
 ghost use Prim.Native.Nat.{_+_, _-_, _*_, _^_, _≤_, _<_, min};
 ghost use lib.ListN.{length, take, drop, replicate};
 ghost use Rattle.rules.specs.Bytes.{bytes, number, part, splice};
@@ -60,8 +60,85 @@ pub fn signed20(n: u32) -> u32
     if n < 0x80000 { n } else { n + 0xFFF00000 }
 }
 
-// ---- "Memory is big-endian": the number of 1, 2, 4 or 8 bytes at `at`. Each width is two of the half; the low half is read first,
-// so that the compiler sees one load, of 8 bytes too.
+// ---- bytes with the lowest first, and words swapped: the compiler joins such bytes into one load or store, of 8 bytes too, and sees one swap.
+// Bytes with the highest first stay apart where a store and a load of them meet.
+
+// The bytes of a word the other way round.
+fn swap2(v: u16) -> u16
+    ensures { λ r. ⌜ r ≡ number (reverse (bytes 2 v)) ⌝ }
+{
+    (v % 0x100) * 0x100 + v / 0x100
+}
+
+fn swap4(v: u32) -> u32
+    ensures { λ r. ⌜ r ≡ number (reverse (bytes 4 v)) ⌝ }
+{
+    (v % 0x100) * 0x1000000
+        + (v / 0x100 % 0x100) * 0x10000
+        + (v / 0x10000 % 0x100) * 0x100
+        + v / 0x1000000
+}
+
+fn swap8(v: u64) -> u64
+    ensures { λ r. ⌜ r ≡ number (reverse (bytes 8 v)) ⌝ }
+{
+    swap4((v % 0x100000000) as u32) as u64 * 0x100000000 + swap4((v / 0x100000000) as u32) as u64
+}
+
+// The number at `at`, with its lowest byte first: each width is two of the half.
+fn low2(s: &[u8], at: usize) -> u16
+    requires { ⌜ at + 2 ≤ length (now s) ⌝ }
+    ensures { λ r. ⌜ r ≡ number (reverse (part (now (s .entry)) at 2)) ⌝ }
+{
+    let low = get1(s, at) as u16;
+    let high = get1(s, at + 1) as u16;
+    high * 0x100 + low
+}
+
+fn low4(s: &[u8], at: usize) -> u32
+    requires { ⌜ at + 4 ≤ length (now s) ⌝ }
+    ensures { λ r. ⌜ r ≡ number (reverse (part (now (s .entry)) at 4)) ⌝ }
+{
+    let low = low2(s, at) as u32;
+    let high = low2(s, at + 2) as u32;
+    high * 0x10000 + low
+}
+
+fn low8(s: &[u8], at: usize) -> u64
+    requires { ⌜ at + 8 ≤ length (now s) ⌝ }
+    ensures { λ r. ⌜ r ≡ number (reverse (part (now (s .entry)) at 8)) ⌝ }
+{
+    let low = low4(s, at) as u64;
+    let high = low4(s, at + 4) as u64;
+    high * 0x100000000 + low
+}
+
+// The same stored.
+fn lay2(s: &mut [u8], at: usize, v: u16)
+    requires { ⌜ at + 2 ≤ length (now s) ⌝ }
+    ensures { λ _. ⌜ now (s .exit) ≡ splice (now (s .entry)) at (reverse (bytes 2 v)) ⌝ }
+{
+    put1(s, at, (v % 0x100) as u8);
+    put1(s, at + 1, (v / 0x100) as u8);
+}
+
+fn lay4(s: &mut [u8], at: usize, v: u32)
+    requires { ⌜ at + 4 ≤ length (now s) ⌝ }
+    ensures { λ _. ⌜ now (s .exit) ≡ splice (now (s .entry)) at (reverse (bytes 4 v)) ⌝ }
+{
+    lay2(s, at, (v % 0x10000) as u16);
+    lay2(s, at + 2, (v / 0x10000) as u16);
+}
+
+fn lay8(s: &mut [u8], at: usize, v: u64)
+    requires { ⌜ at + 8 ≤ length (now s) ⌝ }
+    ensures { λ _. ⌜ now (s .exit) ≡ splice (now (s .entry)) at (reverse (bytes 8 v)) ⌝ }
+{
+    lay4(s, at, (v % 0x100000000) as u32);
+    lay4(s, at + 4, (v / 0x100000000) as u32);
+}
+
+// ---- "Memory is big-endian": the number of 1, 2, 4 or 8 bytes at `at`. It is read with the lowest byte first, and swapped.
 
 pub fn get1(s: &[u8], at: usize) -> u8
     requires { ⌜ at + 1 ≤ length (now s) ⌝ }
@@ -74,30 +151,24 @@ pub fn get2(s: &[u8], at: usize) -> u16
     requires { ⌜ at + 2 ≤ length (now s) ⌝ }
     ensures { λ r. ⌜ r ≡ number (part (now (s .entry)) at 2) ⌝ }
 {
-    let low = get1(s, at + 1) as u16;
-    let high = get1(s, at) as u16;
-    high * 0x100 + low
+    swap2(low2(s, at))
 }
 
 pub fn get4(s: &[u8], at: usize) -> u32
     requires { ⌜ at + 4 ≤ length (now s) ⌝ }
     ensures { λ r. ⌜ r ≡ number (part (now (s .entry)) at 4) ⌝ }
 {
-    let low = get2(s, at + 2) as u32;
-    let high = get2(s, at) as u32;
-    high * 0x10000 + low
+    swap4(low4(s, at))
 }
 
 pub fn get8(s: &[u8], at: usize) -> u64
     requires { ⌜ at + 8 ≤ length (now s) ⌝ }
     ensures { λ r. ⌜ r ≡ number (part (now (s .entry)) at 8) ⌝ }
 {
-    let low = get4(s, at + 4) as u64;
-    let high = get4(s, at) as u64;
-    high * 0x100000000 + low
+    swap8(low8(s, at))
 }
 
-// ---- the same stored: the bytes of `v` are laid over those at `at`.
+// ---- the same stored: the bytes of `v` are laid over those at `at`. It is swapped, and laid with the lowest byte first.
 
 pub fn put1(s: &mut [u8], at: usize, v: u8)
     requires { ⌜ at + 1 ≤ length (now s) ⌝ }
@@ -110,24 +181,21 @@ pub fn put2(s: &mut [u8], at: usize, v: u16)
     requires { ⌜ at + 2 ≤ length (now s) ⌝ }
     ensures { λ _. ⌜ now (s .exit) ≡ splice (now (s .entry)) at (bytes 2 v) ⌝ }
 {
-    put1(s, at, (v / 0x100) as u8);
-    put1(s, at + 1, (v % 0x100) as u8);
+    lay2(s, at, swap2(v));
 }
 
 pub fn put4(s: &mut [u8], at: usize, v: u32)
     requires { ⌜ at + 4 ≤ length (now s) ⌝ }
     ensures { λ _. ⌜ now (s .exit) ≡ splice (now (s .entry)) at (bytes 4 v) ⌝ }
 {
-    put2(s, at, (v / 0x10000) as u16);
-    put2(s, at + 2, (v % 0x10000) as u16);
+    lay4(s, at, swap4(v));
 }
 
 pub fn put8(s: &mut [u8], at: usize, v: u64)
     requires { ⌜ at + 8 ≤ length (now s) ⌝ }
     ensures { λ _. ⌜ now (s .exit) ≡ splice (now (s .entry)) at (bytes 8 v) ⌝ }
 {
-    put4(s, at, (v / 0x100000000) as u32);
-    put4(s, at + 4, (v % 0x100000000) as u32);
+    lay8(s, at, swap8(v));
 }
 
 // ---- counts. "If bit 15 of a count is set, the count is its low 9 bits and bits 14..9 the link; else it is the low 15 bits with no link."

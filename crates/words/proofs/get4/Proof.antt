@@ -1,42 +1,17 @@
--- `words::get4` meets its contract: two numbers of half the width are one. Assumes nothing.
+-- `words::get4` meets its contract: the number with the lowest byte first, swapped. Assumes nothing.
 use borrow.Author.Needs.{needs}
-use Rattle.rules.proofs.BytesLaws.{number-two}
+use Rattle.words.proofs.Swap.{get-swapped}
 use Rattle.words.proofs.get4.Statement.{statement}
 use Rattle.words.proofs.get4.Tie as tie
 
-add-get2 : tie.Need-add-get2
-add-get2 c = search needs
+low4-requires : tie.Need-low4-requires
+low4-requires c κs = search needs
 
-get2-requires : tie.Need-get2-requires
-get2-requires c κs = search needs
-
-cast-low : tie.Need-cast-low
-cast-low c = search needs
-
-get2-requires-2 : tie.Need-get2-requires-2
-get2-requires-2 c κs = search needs
-
-cast-high : tie.Need-cast-high
-cast-high c = search needs
-
-mul-result : tie.Need-mul-result
-mul-result c = search needs
-
-add-result : tie.Need-add-result
-add-result c = search needs
+swap4-requires : tie.Need-swap4-requires
+swap4-requires c κs = search needs
 
 returns : tie.Need-returns
-returns c = number-two 2 _ _ (c .get22 .ensures) (c .before .get2 .ensures)
+returns c = get-swapped 4 _ _ (λ i. c .before .before .shared-slice-known .given i .fits) (c .before .low4 .ensures) (c .swap4 .ensures)
 
 pub get4-spec : {M : Type 1} → statement M
-get4-spec =
-    tie.close
-    (tie.spec
-    add-get2
-    get2-requires
-    cast-low
-    get2-requires-2
-    cast-high
-    mul-result
-    add-result
-    returns)
+get4-spec = tie.close (tie.spec low4-requires swap4-requires returns)

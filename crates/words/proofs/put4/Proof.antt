@@ -1,31 +1,20 @@
--- `words::put4` meets its contract: two numbers of half the width, laid side by side, are one. Assumes nothing.
+-- `words::put4` meets its contract: swapped, and laid down with the lowest byte first. Assumes nothing.
 use borrow.Author.Needs.{needs}
-use Rattle.rules.proofs.BytesLaws.{splice-two}
+use Rattle.words.proofs.Swap.{put-swapped}
 use Rattle.words.proofs.put4.Statement.{statement}
 use Rattle.words.proofs.put4.Tie as tie
 
-cast-put2 : tie.Need-cast-put2
-cast-put2 c = search needs
+swap4-requires : tie.Need-swap4-requires
+swap4-requires c κs = search needs
 
-put2-requires : tie.Need-put2-requires
-put2-requires c κs = search needs
-
-add-put2 : tie.Need-add-put2
-add-put2 c = search needs
-
-cast-put2-2 : tie.Need-cast-put2-2
-cast-put2-2 c = search needs
-
-put2-requires-2 : tie.Need-put2-requires-2
-put2-requires-2 c κs = search needs
+lay4-requires : tie.Need-lay4-requires
+lay4-requires c κs = search needs
 
 same-length : tie.Need-same-length
 same-length c = search needs
 
 returns : tie.Need-returns
-returns c = splice-two 2 _ _ _ (c .before .before .before .before .before .before .put2 .ensures) (c .before .before .put22 .ensures)
+returns c = put-swapped 4 _ _ _ (c .before .before .before .swap4 .ensures) (c .before .before .lay4 .ensures)
 
 pub put4-spec : {M : Type 1} → statement M
-put4-spec =
-    tie.close
-    (tie.spec cast-put2 put2-requires add-put2 cast-put2-2 put2-requires-2 same-length returns)
+put4-spec = tie.close (tie.spec swap4-requires lay4-requires same-length returns)

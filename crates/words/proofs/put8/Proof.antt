@@ -1,31 +1,20 @@
--- `words::put8` meets its contract: two numbers of half the width, laid side by side, are one. Assumes nothing.
+-- `words::put8` meets its contract: swapped, and laid down with the lowest byte first. Assumes nothing.
 use borrow.Author.Needs.{needs}
-use Rattle.rules.proofs.BytesLaws.{splice-two}
+use Rattle.words.proofs.Swap.{put-swapped}
 use Rattle.words.proofs.put8.Statement.{statement}
 use Rattle.words.proofs.put8.Tie as tie
 
-cast-put4 : tie.Need-cast-put4
-cast-put4 c = search needs
+swap8-requires : tie.Need-swap8-requires
+swap8-requires c κs = search needs
 
-put4-requires : tie.Need-put4-requires
-put4-requires c κs = search needs
-
-add-put4 : tie.Need-add-put4
-add-put4 c = search needs
-
-cast-put4-2 : tie.Need-cast-put4-2
-cast-put4-2 c = search needs
-
-put4-requires-2 : tie.Need-put4-requires-2
-put4-requires-2 c κs = search needs
+lay8-requires : tie.Need-lay8-requires
+lay8-requires c κs = search needs
 
 same-length : tie.Need-same-length
 same-length c = search needs
 
 returns : tie.Need-returns
-returns c = splice-two 4 _ _ _ (c .before .before .before .before .before .before .put4 .ensures) (c .before .before .put42 .ensures)
+returns c = put-swapped 8 _ _ _ (c .before .before .before .swap8 .ensures) (c .before .before .lay8 .ensures)
 
 pub put8-spec : {M : Type 1} → statement M
-put8-spec =
-    tie.close
-    (tie.spec cast-put4 put4-requires add-put4 cast-put4-2 put4-requires-2 same-length returns)
+put8-spec = tie.close (tie.spec swap8-requires lay8-requires same-length returns)
