@@ -1,4 +1,4 @@
--- Records one after the other: one by cases, a part's fields turn by turn, part after part. Assumes nothing.
+-- Records one after the other: one by cases, a part's fields turn by turn and block by block, part after part. Assumes nothing.
 use mathlib.Core.Bool.{Bool, true, false}
 use mathlib.Core.List.{List, [], _∷_, _++_}
 use mathlib.Core.Path.{_≡_, refl, sym, ap, _∙_}
@@ -7,9 +7,10 @@ use native.Mathlib.Nat.{add-suc, add-zero, suc-add, suc-inj, not-suc-le-zero, le
 use native.Mathlib.Numerals.{add-one}
 use native.Mathlib.Omega.{arith}
 use borrow.Author.Tests.{le-leb, lt-leb, eq-eqb, ne-eqb}
+use lib.Bits.{bitOr, bitXor, or-add-and, xor-add-and, and-le-l, and-le-r}
 use lib.Dec.{eqb}
-use lib.ListN.{length, getD, drop, drop-of-length-le}
-use lib.Seq.{drop-cons}
+use lib.ListN.{length, getD, take, drop, length-take, length-drop, take-append-drop, drop-of-length-le}
+use lib.Seq.{take-suc, take-all, drop-cons, drop-drop}
 use Rattle.rules.specs.Bytes.{splice}
 use Rattle.rules.specs.Carry.{Rec, stoodIn, line, lineOf, endLine, changed}
 use Rattle.closing.specs.Closes.{Noting, noting, add, addAll, addEnd}
@@ -94,6 +95,21 @@ same-on n m ps xs ys s p f = part-on n m ps ps xs ys s refl p (none-changed n ps
 
 -- ---- turn by turn, for elements of every width
 
+-- the elements from i to e
+abbrev between : ℕ → ℕ → List ℕ → List ℕ
+between i e xs = take (e - i) (drop i xs)
+
+length-between : (i e : ℕ) (xs : List ℕ) → e ≤ length xs → length (between i e xs) ≡ e - i
+length-between i e xs h = simp (length-take, length-drop) (omega arith)
+
+cut : (i e : ℕ) (xs : List ℕ) → i ≤ e → drop i xs ≡ between i e xs ++ drop e xs
+cut i e xs h =
+    let n : i + (e - i) ≡ e = omega arith in
+    sym (take-append-drop (e - i) (drop i xs)) ∙ ap (λ (t : List ℕ). between i e xs ++ t) (drop-drop (e - i) i xs ∙ ap (λ (m : ℕ). drop m xs) n)
+
+to-length : (i : ℕ) (xs : List ℕ) → between i (length xs) xs ≡ drop i xs
+to-length i xs = take-all (length xs - i) (drop i xs) (omega (arith, length-drop i xs))
+
 module _ (first : ℕ) (xs ys : List ℕ) where
   pub turns-start : (s : Noting) → addAll (changed (first + 0) (drop 0 xs) (drop 0 ys)) s ≡ addAll (changed first xs ys) s
   turns-start s = rw add-zero
@@ -111,9 +127,50 @@ module _ (first : ℕ) (xs ys : List ℕ) where
       pub turn-full : r ≡ Full → noting Full j ≡ addAll (changed (first + i) (drop i xs) (drop i ys)) s
       turn-full e = then-rest (stays-full _ j e)
 
+  -- all from i to e in one go
+  module _ (i e : ℕ) (s : Noting) {r : Noted} {j : List ℕ} (h : i ≤ e) (k : e ≤ length xs) (l : e ≤ length ys)
+      (part : noting r j ≡ addAll (changed (first + i) (between i e xs) (between i e ys)) s)
+    where
+      then-on : {o : Noting} → o ≡ addAll (changed (first + e) (drop e xs) (drop e ys)) (noting r j) → o ≡ addAll (changed (first + i) (drop i xs) (drop i ys)) s
+      then-on f =
+          let m : length (between i e xs) ≡ e - i = length-between i e xs k in
+          let n : length (between i e ys) ≡ e - i = length-between i e ys l in
+          rw (cut i e xs h, cut i e ys h) (part-on (first + i) (first + e) (between i e xs) (between i e ys) (drop e xs) (drop e ys) s (m ∙ sym n) (omega arith) part f)
+
+      pub block : {at : ℕ} → r ≡ At at
+          → addAll (changed (first + e) (drop e xs) (drop e ys)) (noting (At at) j) ≡ addAll (changed (first + i) (drop i xs) (drop i ys)) s
+      block q = then-on (rw q)
+
+      pub block-full : r ≡ Full → noting Full j ≡ addAll (changed (first + i) (drop i xs) (drop i ys)) s
+      block-full q = then-on (stays-full _ j q)
+
+  -- and all from i on
+  pub to-end : (i : ℕ) (s : Noting) {o : Noting}
+      → o ≡ addAll (changed (first + i) (between i (length xs) xs) (between i (length ys) ys)) s → o ≡ addAll (changed (first + i) (drop i xs) (drop i ys)) s
+  to-end i s e = e ∙ rw (to-length i xs, to-length i ys)
+
   pub turns-done : (i : ℕ) (s : Noting) → length xs ≤ i → s ≡ addAll (changed (first + i) (drop i xs) (drop i ys)) s
   unfolding changed addAll
   turns-done i s h = rw (drop-of-length-le xs h)
+
+-- ---- elements that are the same, of every width: where their XORs together are 0
+
+or-none : (a b : ℕ) → bitOr a b ≡ 0 → (a ≡ 0) × (b ≡ 0)
+or-none a b e = (omega (arith, or-add-and a b, and-le-r a b), omega (arith, or-add-and a b, and-le-l a b))
+
+xor-none : (a b : ℕ) → bitXor a b ≡ 0 → a ≡ b
+xor-none a b e = omega (arith, xor-add-and a b, and-le-l a b, and-le-r a b)
+
+-- those passed so far, with o for their XORs together
+module _ (xs ys : List ℕ) (i o : ℕ) (so-far : o ≡ 0 → take i xs ≡ take i ys) where
+  pub same-more : i < length xs → i < length ys → bitOr o (bitXor (getD xs i 0) (getD ys i 0)) ≡ 0 → take (i + 1) xs ≡ take (i + 1) ys
+  same-more h k e =
+      let both : (o ≡ 0) × (bitXor (getD xs i 0) (getD ys i 0) ≡ 0) = or-none o (bitXor (getD xs i 0) (getD ys i 0)) e in
+      rw (add-one i, take-suc xs i 0 h, take-suc ys i 0 k, so-far (both .0), xor-none (getD xs i 0) (getD ys i 0) (both .1))
+
+  -- once all are passed there is no record of them
+  pub same-all : (n : ℕ) (s : Noting) → o ≡ 0 → length xs ≤ i → length ys ≤ i → s ≡ addAll (changed n xs ys) s
+  same-all n s e h k = none-changed n xs ys s (sym (take-all i xs h) ∙ so-far e ∙ take-all i ys k)
 
 -- ---- the end record, by cases
 

@@ -70,7 +70,51 @@ pub fn note_end(s: Noted, used: usize, journal: &mut [u8]) -> Noted
 }
 
 // ---- the fields of an array that differ: `first` is the number of its first element.
-// One function for each width of element; one law for all (`turn` of proofs/Laws).
+// Most are the same at the end of an act, so an array is gone through in blocks, and only a block that differs goes element by element.
+// Three functions for each width of element: each element, a block, all. One law for all widths (`turn`, `same-more` and `block` of proofs/Laws).
+
+// How many elements a block has.
+const BLOCK: usize = 16;
+
+fn note_each_wide(at: usize, before: &[u64], after: &[u64], first: u32, journal: &mut [u8]) -> Noted
+    requires { ⌜ Noteworthy first (now before) (now after) ⌝ }
+    ensures { λ r. ⌜ Notes first (now (before .entry)) (now (after .entry)) (At at) r ⇒ journal ⌝ }
+{
+    let mut end = at;
+    let mut i = 0;
+    while i < before.len() {
+        let Noted::At(next) = note_one(end, first + i as u32, before[i], after[i], journal) else {
+            return Noted::Full;
+        };
+        end = next;
+        i += 1;
+    }
+    Noted::At(end)
+}
+
+// Whether elements differ is asked once, of all XORs together: a test for each costs more. (The loop goes by the length and not by BLOCK: of a
+// loop whose length is known LLVM makes a test for each again.)
+fn note_wide_block(
+    at: usize,
+    before: &[u64],
+    after: &[u64],
+    first: u32,
+    journal: &mut [u8],
+) -> Noted
+    requires { ⌜ Noteworthy first (now before) (now after) ⌝ }
+    ensures { λ r. ⌜ Notes first (now (before .entry)) (now (after .entry)) (At at) r ⇒ journal ⌝ }
+{
+    let mut other = 0;
+    let mut i = 0;
+    while i < before.len() {
+        other |= before[i] ^ after[i];
+        i += 1;
+    }
+    if other == 0 {
+        return Noted::At(at);
+    }
+    note_each_wide(at, before, after, first, journal)
+}
 
 fn note_wides(s: Noted, before: &[u64], after: &[u64], first: u32, journal: &mut [u8]) -> Noted
     requires { ⌜ Noteworthy first (now before) (now after) ⌝ }
@@ -81,20 +125,67 @@ fn note_wides(s: Noted, before: &[u64], after: &[u64], first: u32, journal: &mut
     };
     let mut at = start;
     let mut i = 0;
-    while i < before.len() {
-        let Noted::At(next) = note_one(at, first + i as u32, before[i], after[i], journal) else {
+    while i + BLOCK <= before.len() {
+        let end = i + BLOCK;
+        let b = &before[i..end];
+        let a = &after[i..end];
+        let Noted::At(next) = note_wide_block(at, b, a, first + i as u32, journal) else {
             return Noted::Full;
         };
         at = next;
-        i += 1;
+        i = end;
     }
-    Noted::At(at)
+    note_each_wide(at, &before[i..], &after[i..], first + i as u32, journal)
 }
 
 fn wide32(x: u32) -> u64
     ensures { λ r. ⌜ r ≡ x ⌝ }
 {
     x as u64
+}
+
+fn note_each_word(at: usize, before: &[u32], after: &[u32], first: u32, journal: &mut [u8]) -> Noted
+    requires { ⌜ Noteworthy first (now before) (now after) ⌝ }
+    ensures { λ r. ⌜ Notes first (now (before .entry)) (now (after .entry)) (At at) r ⇒ journal ⌝ }
+{
+    let mut end = at;
+    let mut i = 0;
+    while i < before.len() {
+        let Noted::At(next) = note_one(
+            end,
+            first + i as u32,
+            wide32(before[i]),
+            wide32(after[i]),
+            journal,
+        ) else {
+            return Noted::Full;
+        };
+        end = next;
+        i += 1;
+    }
+    Noted::At(end)
+}
+
+fn note_word_block(
+    at: usize,
+    before: &[u32],
+    after: &[u32],
+    first: u32,
+    journal: &mut [u8],
+) -> Noted
+    requires { ⌜ Noteworthy first (now before) (now after) ⌝ }
+    ensures { λ r. ⌜ Notes first (now (before .entry)) (now (after .entry)) (At at) r ⇒ journal ⌝ }
+{
+    let mut other = 0;
+    let mut i = 0;
+    while i < before.len() {
+        other |= before[i] ^ after[i];
+        i += 1;
+    }
+    if other == 0 {
+        return Noted::At(at);
+    }
+    note_each_word(at, before, after, first, journal)
 }
 
 fn note_words(s: Noted, before: &[u32], after: &[u32], first: u32, journal: &mut [u8]) -> Noted
@@ -106,26 +197,61 @@ fn note_words(s: Noted, before: &[u32], after: &[u32], first: u32, journal: &mut
     };
     let mut at = start;
     let mut i = 0;
-    while i < before.len() {
-        let Noted::At(next) = note_one(
-            at,
-            first + i as u32,
-            wide32(before[i]),
-            wide32(after[i]),
-            journal,
-        ) else {
+    while i + BLOCK <= before.len() {
+        let end = i + BLOCK;
+        let b = &before[i..end];
+        let a = &after[i..end];
+        let Noted::At(next) = note_word_block(at, b, a, first + i as u32, journal) else {
             return Noted::Full;
         };
         at = next;
-        i += 1;
+        i = end;
     }
-    Noted::At(at)
+    note_each_word(at, &before[i..], &after[i..], first + i as u32, journal)
 }
 
 fn wide8(x: u8) -> u64
     ensures { λ r. ⌜ r ≡ x ⌝ }
 {
     x as u64
+}
+
+fn note_each_byte(at: usize, before: &[u8], after: &[u8], first: u32, journal: &mut [u8]) -> Noted
+    requires { ⌜ Noteworthy first (now before) (now after) ⌝ }
+    ensures { λ r. ⌜ Notes first (now (before .entry)) (now (after .entry)) (At at) r ⇒ journal ⌝ }
+{
+    let mut end = at;
+    let mut i = 0;
+    while i < before.len() {
+        let Noted::At(next) = note_one(
+            end,
+            first + i as u32,
+            wide8(before[i]),
+            wide8(after[i]),
+            journal,
+        ) else {
+            return Noted::Full;
+        };
+        end = next;
+        i += 1;
+    }
+    Noted::At(end)
+}
+
+fn note_byte_block(at: usize, before: &[u8], after: &[u8], first: u32, journal: &mut [u8]) -> Noted
+    requires { ⌜ Noteworthy first (now before) (now after) ⌝ }
+    ensures { λ r. ⌜ Notes first (now (before .entry)) (now (after .entry)) (At at) r ⇒ journal ⌝ }
+{
+    let mut other = 0;
+    let mut i = 0;
+    while i < before.len() {
+        other |= before[i] ^ after[i];
+        i += 1;
+    }
+    if other == 0 {
+        return Noted::At(at);
+    }
+    note_each_byte(at, before, after, first, journal)
 }
 
 fn note_bytes(s: Noted, before: &[u8], after: &[u8], first: u32, journal: &mut [u8]) -> Noted
@@ -137,20 +263,17 @@ fn note_bytes(s: Noted, before: &[u8], after: &[u8], first: u32, journal: &mut [
     };
     let mut at = start;
     let mut i = 0;
-    while i < before.len() {
-        let Noted::At(next) = note_one(
-            at,
-            first + i as u32,
-            wide8(before[i]),
-            wide8(after[i]),
-            journal,
-        ) else {
+    while i + BLOCK <= before.len() {
+        let end = i + BLOCK;
+        let b = &before[i..end];
+        let a = &after[i..end];
+        let Noted::At(next) = note_byte_block(at, b, a, first + i as u32, journal) else {
             return Noted::Full;
         };
         at = next;
-        i += 1;
+        i = end;
     }
-    Noted::At(at)
+    note_each_byte(at, &before[i..], &after[i..], first + i as u32, journal)
 }
 
 // "64+ch busy, 128+ch majors": `first` is the number of channel 0's.
