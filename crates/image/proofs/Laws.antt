@@ -1,12 +1,11 @@
 -- The laws that the proofs of this crate cite: numbers laid down and read, place by place. Assumes nothing.
-use mathlib.Core.Bool.{Bool, true, false, cond, false≢true}
+use mathlib.Core.Bool.{Bool, true, false, cond, _&&_, false≢true}
 use mathlib.Core.List.{List, [], _∷_, _++_, append-nil}
 use mathlib.Core.Path.{_≡_, refl, sym, ap, ap₂, _∙_}
 use Prim.Native.Nat.{ℕ, zero, suc, _+_, _-_, _*_, _%_, _^_, _≤_, _<_}
 use native.Mathlib.Nat.{mod-eq-of-lt, zero-add, add-zero, add-suc, suc-add, sub-zero, sub-self, le-antisymm, not-suc-le-zero, le-of-suc-le-suc}
-use native.Mathlib.Numerals.{add-one}
 use native.Mathlib.Omega.{arith}
-use borrow.Author.Tests.{eqb-true, eq-eqb, ne-eqb, leb-true}
+use borrow.Author.Tests.{eqb-true, eq-eqb, leb-true}
 use lib.Dec.{eqb, leb}
 use lib.ListN.{length, getD, set, drop, length-append, drop-of-length-le}
 use lib.Seq.{drop-cons, drop-length}
@@ -70,7 +69,7 @@ pub splice-next : (x : List ℕ) (at : ℕ) (ys zs : List ℕ) → splice (splic
 splice-next x at ys zs = splice-comm x at ys (at + length ys) zs (omega arith) ∙ sym (splice-append x at ys zs)
 
 -- the setting
-flag-laid : (b : Bool) → bytes 8 (cond b 0x0100000000000000 0) ++ bytes 8 0 ≡ settingBytes b
+pub flag-laid : (b : Bool) → bytes 8 (cond b 0x0100000000000000 0) ++ bytes 8 0 ≡ settingBytes b
 unfolding bytes settingBytes
 flag-laid true = refl
 flag-laid false = refl
@@ -97,7 +96,7 @@ splice-all x y e =
     let none : drop (0 + length y) x ≡ [] = drop-of-length-le x {i = 0 + length y} (omega (arith, e)) in
     splice-cut x 0 y (omega (arith, e)) ∙ ap (λ l. y ++ l) none ∙ append-nil y
 
-number-of : (bits : ℕ) (b : List ℕ) (n k i : ℕ) → i < k → getD (numbersIn bits b n k) i 0 ≡ numberIn bits b (n + i)
+pub number-of : (bits : ℕ) (b : List ℕ) (n k i : ℕ) → i < k → getD (numbersIn bits b n k) i 0 ≡ numberIn bits b (n + i)
 unfolding numbersIn
 number-of bits b n zero i h = absurd (not-suc-le-zero h)
 number-of bits b n (suc k) zero h = ap (numberIn bits b) (sym (add-zero n))
@@ -160,20 +159,7 @@ pub part-all : (b x : List ℕ) (left : ℕ) (y : List ℕ) → left ≡ 0 → y
 part-all b x left y e p =
     p ∙ ap (λ n. splice x n (part b n (length x - n))) e ∙ rw (sub-zero (length x)) (splice-all x (part b 0 (length x)) (length-part b 0 (length x)))
 
--- ---- byte by byte
-
-module _ (a b : List ℕ) (i : ℕ) (w : Bool) (left : alike (drop i a) (drop i b) ≡ w) where
-  pub alike-turn : i < length a → length a ≡ length b → getD a i 0 ≡ getD b i 0 → alike (drop (i + 1) a) (drop (i + 1) b) ≡ w
-  unfolding alike
-  alike-turn h l e = rw (add-one i) (sym (rw (drop-cons a i 0 h, drop-cons b i 0 (omega (arith, l)), eq-eqb (getD a i 0) (getD b i 0) e) refl) ∙ left)
-
-  pub alike-not : i < length a → length a ≡ length b → (getD a i 0 ≡ getD b i 0 → ⊥) → false ≡ w
-  unfolding alike
-  alike-not h l e = sym (rw (drop-cons a i 0 h, drop-cons b i 0 (omega (arith, l)), ne-eqb (getD a i 0) (getD b i 0) e) refl) ∙ left
-
-  pub alike-end : length a ≤ i → length a ≡ length b → true ≡ w
-  unfolding alike
-  alike-end h l = sym (rw (drop-of-length-le a h, drop-of-length-le b {i = i} (omega (arith, l))) refl) ∙ left
+-- ---- number by number
 
 pub alike-lengths : (a b : List ℕ) → (length a ≡ length b → ⊥) → alike a b ≡ false
 unfolding alike
@@ -196,3 +182,20 @@ alike-same [] [] h = refl
 alike-same [] (y ∷ b) h = absurd (false≢true h)
 alike-same (x ∷ a) [] h = absurd (false≢true h)
 alike-same (x ∷ a) (y ∷ b) h = alike-both x y a b (eqb x y) refl (alike-same a b) h
+
+pub alike-self : (a : List ℕ) → alike a a ≡ true
+unfolding alike
+alike-self [] = refl
+alike-self (x ∷ a) = rw (eq-eqb x x refl) (alike-self a)
+
+-- lists in two parts, the first as long
+pub alike-append : (xs ys zs ws : List ℕ) → length xs ≡ length zs → alike (xs ++ ys) (zs ++ ws) ≡ alike xs zs && alike ys ws
+unfolding alike
+alike-append [] ys [] ws e = refl
+alike-append [] ys (z ∷ zs) ws e = absurd (omega (arith, e))
+alike-append (x ∷ xs) ys [] ws e = absurd (omega (arith, e))
+alike-append (x ∷ xs) ys (z ∷ zs) ws e = rw (alike-append xs ys zs ws (omega (arith, e))) (either (eqb x z) (alike xs zs))
+  where
+    either : (s t : Bool) → cond s (t && alike ys ws) false ≡ cond s t false && alike ys ws
+    either true t = refl
+    either false t = refl

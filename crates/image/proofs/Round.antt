@@ -5,7 +5,7 @@ use mathlib.Core.Path.{_≡_, refl, sym, ap, ap₂, _∙_}
 use Prim.Native.Nat.{ℕ, zero, suc, _+_, _-_, _*_, _%_, _^_, _<_}
 use native.Mathlib.Nat.{mod-lt, mod-eq-of-lt, zero-add, add-zero, add-suc, suc-add, not-suc-le-zero, le-of-suc-le-suc, suc-inj}
 use native.Mathlib.Omega.{arith}
-use borrow.Author.Tests.{eq-eqb, leb-true}
+use borrow.Author.Tests.{leb-true}
 use lib.Dec.{eqb, lit<}
 use lib.ListN.{length, getD, replicate, length-append, List·getD-append}
 use lib.Pow.{pow-pos}
@@ -21,7 +21,8 @@ use Rattle.rules.proofs.Powers.{low-low}
 use Rattle.rules.proofs.Each.{Proper}
 use Rattle.rules.proofs.PartLaws.{Within}
 use Rattle.device.proofs.Laws.{some-to-64}
-use Rattle.image.specs.Image.{laid, settingBytes, imageOf, numberIn, numbersIn, scalarsIn, controllerIn, deviceIn, alike, isImage}
+use Rattle.image.specs.Image.{laid, settingBytes, imageOf, numberIn, numbersIn, scalarsIn, controllerIn, deviceIn, isImage}
+use Rattle.image.proofs.Laws.{alike-self}
 use Rattle.image.proofs.Rows.{device-got, length-joined, total, length-flagged}
 
 -- ---- parts of a list in two
@@ -115,11 +116,6 @@ with-own : (d : Device) {l : List Controller} {b : Bool} → d .controllers ≡ 
       ignore = b;
     })
 with-own d p q = rw (← p, ← q) refl
-
-alike-self : (a : List ℕ) → alike a a ≡ true
-unfolding alike
-alike-self [] = refl
-alike-self (x ∷ a) = rw (eq-eqb x x refl) (alike-self a)
 
 module _ (d : Device) (s : Sound d) (t : length (d .table) ≡ 2048) where
   at-image : (f : Field) → Real f → numberOf f < 768 → holds f d ≡ numberIn (bitsOf f) (imageOf d) (numberOf f)

@@ -14,7 +14,7 @@ use Rattle.rules.specs.State.{Controller, Device}
 use Rattle.rules.proofs.BytesLaws.{splice-append, splice-splice, length-part}
 use Rattle.rules.proofs.FieldLaws.{sizes, Sound, sized}
 use Rattle.rules.proofs.PartLaws.{Sized}
-use Rattle.image.specs.Image.{laid, settingBytes, imageOf, deviceIn, controllerIn, numbersIn, scalarsIn, alike, isImage}
+use Rattle.image.specs.Image.{laid, settingBytes, imageOf, deviceIn, controllerIn, numbersIn, scalarsIn, isImage}
 use Rattle.image.specs.Parts.{scalarsOf, channelsOf, levelsOf, takenOf}
 use Rattle.image.proofs.Laws.{length-laid, splice-next, splice-all, length-numbers, alike-lengths, alike-same}
 
@@ -23,7 +23,7 @@ unfolding laid
 laid-append [] ys = refl
 laid-append (x ∷ xs) ys = ap (λ l. bytes 8 x ++ l) (laid-append xs ys) ∙ sym (append-assoc (bytes 8 x) (laid xs) (laid ys))
 
-joined-more : (ps : List (List ℕ)) (v : List ℕ) → joined (ps ++ v ∷ []) ≡ joined ps ++ v
+pub joined-more : (ps : List (List ℕ)) (v : List ℕ) → joined (ps ++ v ∷ []) ≡ joined ps ++ v
 unfolding joined
 joined-more [] v = append-nil v
 joined-more (p ∷ ps) v = ap (λ l. p ++ l) (joined-more ps v) ∙ sym (append-assoc p (joined ps) v)
@@ -211,10 +211,6 @@ image-is b h = alike-same (imageOf (deviceIn b)) b h
 
 pub image-long : (b : List ℕ) → isImage b ≡ true → length b ≡ 8720
 image-long b h = sym (ap length (image-is b h)) ∙ length-image (deviceIn b) (table-in b) (sized-in b)
-
-pub image-again : (b again : List ℕ) (d : Device) (r : Bool) → d ≡ deviceIn b → again ≡ imageOf d → r ≡ alike again b → r ≡ isImage b
-unfolding isImage
-image-again b again d r p q e = e ∙ ap (λ l. alike l b) (q ∙ ap imageOf p)
 
 -- ---- a device read
 

@@ -3,11 +3,12 @@ use rules::Controller;
 use rules::Device;
 ghost use mathlib.Core.Bool.{cond};
 ghost use mathlib.Core.Path.{_≡_};
-ghost use Prim.Native.Nat.{_+_, _*_, _≤_, _<_};
-ghost use lib.ListN.{length, getD};
+ghost use Prim.Native.Nat.{_+_, _*_, _≤_, _<_, max};
+ghost use lib.ListN.{length, getD, replicate};
 ghost use Rattle.rules.specs.Bytes.{splice, part};
 ghost use Rattle.rules.specs.Fields.{joined, ownOf};
 ghost use Rattle.rules.specs.View.{viewController, view};
+ghost use Rattle.image.specs.Fits.{fitsIn, settingFits, scalarsFit, ownBits};
 ghost use Rattle.image.specs.Image.{laid, settingBytes, imageOf, numberIn, numbersIn, controllerIn, deviceIn, alike, isImage};
 ghost use Rattle.image.specs.Parts.{scalarsOf, channelsOf, levelsOf, takenOf};
 
@@ -165,21 +166,6 @@ fn get_table(image: &[u8], into: &mut [u8])
     }
 }
 
-// Byte by byte.
-fn alike(a: &[u8], b: &[u8]) -> bool
-    requires { ⌜ length (now a) ≡ length (now b) ⌝ }
-    ensures { λ r. ⌜ r ≡ alike (now (a .entry)) (now (b .entry)) ⌝ }
-{
-    let mut i = 0;
-    while i < a.len() {
-        if a[i] != b[i] {
-            return false;
-        }
-        i += 1;
-    }
-    true
-}
-
 // ---- a device
 
 // Fields 0 to 15: 0, and over the first of them the numbers that stand alone.
@@ -320,15 +306,87 @@ pub fn get_device(image: &[u8]) -> Device
     }
 }
 
-// The bytes are a device's: laying down the device that stands in them gives them again.
+// ---- which bytes are an image: those that laying down the device in them would give again. What fits 64 bits always does.
+
+fn greater(a: u64, b: u64) -> u64
+    ensures { λ r. ⌜ r ≡ max a b ⌝ }
+{
+    if a < b { b } else { a }
+}
+
+// Each of `count` numbers from place `from` on fits `bits` bits: so exactly if the greatest does. Asked one by one, or by their OR, numbers cost
+// more: then the compiler sees no load of 8 bytes.
+fn fits(image: &[u8], from: usize, count: usize, bits: usize) -> bool
+    requires { ⌜ (2064 + 8 * (from + count) ≤ length (now image)) × (bits < 64) ⌝ }
+    ensures { λ r. ⌜ r ≡ fitsIn (replicate count bits) (now (image .entry)) from ⌝ }
+{
+    let mut most = 0;
+    let mut left = count;
+    while 0 < left {
+        left -= 1;
+        most = greater(most, wide_at(image, from + left));
+    }
+    most >> bits == 0
+}
+
+// The first numbers of `a` are those of `v`.
+fn begins_with(a: &[u64], v: &[u64]) -> bool
+    requires { ⌜ length (now v) ≤ length (now a) ⌝ }
+    ensures { λ r. ⌜ r ≡ alike (part (now (a .entry)) 0 (length (now (v .entry)))) (now (v .entry)) ⌝ }
+{
+    let mut same = true;
+    let mut left = v.len();
+    while 0 < left {
+        left -= 1;
+        same = (a[left] == v[left]) & same;
+    }
+    same
+}
+
+// Bytes 2048 to 2063.
+fn setting_fits(image: &[u8]) -> bool
+    requires { ⌜ length (now image) ≡ 8720 ⌝ }
+    ensures { λ r. ⌜ r ≡ settingFits (now (image .entry)) ⌝ }
+{
+    let flag = flag_of(image[2048] == 1);
+    (words::get8(image, 2048) == flag) & (words::get8(image, 2056) == 0)
+}
+
+// Fields 0 to 15: the numbers that stand alone are those of their types, and 0 is behind them.
+fn scalars_fit(image: &[u8]) -> bool
+    requires { ⌜ length (now image) ≡ 8720 ⌝ }
+    ensures { λ r. ⌜ r ≡ scalarsFit (now (image .entry)) ⌝ }
+{
+    let mut first = [0u64; 16];
+    get_wides(image, 0, &mut first);
+    let scalars = device::from_list(&first);
+    let listed = device::listed(scalars);
+    begins_with(&first, &listed) & fits(image, listed.len(), 16 - listed.len(), 0)
+}
+
+// Fields 16 to 63: of each controller's own four ICONFIG is narrow, and 0 is behind them.
+fn own_fit(image: &[u8]) -> bool
+    requires { ⌜ length (now image) ≡ 8720 ⌝ }
+    ensures { λ r. ⌜ r ≡ fitsIn ownBits (now (image .entry)) 16 ⌝ }
+{
+    fits(image, 19, 1, 16)
+        & fits(image, 23, 1, 16)
+        & fits(image, 27, 1, 16)
+        & fits(image, 28, 36, 0)
+}
+
+// The bytes are a device's. Of the rows behind field 63 four are narrow: pending counts, level bytes, and twice 0.
 pub fn is_image(image: &[u8]) -> bool
     ensures { λ r. ⌜ r ≡ isImage (now (image .entry)) ⌝ }
 {
     if image.len() != BYTES {
         return false;
     }
-    let d = get_device(image);
-    let mut again = [0u8; 8720];
-    put_device(&mut again, d);
-    alike(&again, image)
+    setting_fits(image)
+        & scalars_fit(image)
+        & own_fit(image)
+        & fits(image, 192, 64, 32)
+        & fits(image, 256, 192, 8)
+        & fits(image, 448, 128, 0)
+        & fits(image, 768, 64, 0)
 }

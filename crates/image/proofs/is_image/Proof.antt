@@ -1,5 +1,6 @@
 -- `image::is_image` meets its contract. Assumes nothing.
-use Rattle.image.proofs.Rows.{no-image, image-again}
+use Rattle.image.proofs.FitLaws.{image-asked}
+use Rattle.image.proofs.Rows.{no-image}
 use borrow.Author.Needs.{needs}
 use Rattle.image.proofs.is_image.Statement.{statement}
 use Rattle.image.proofs.is_image.Tie as tie
@@ -7,32 +8,42 @@ use Rattle.image.proofs.is_image.Tie as tie
 returns : tie.Need-returns
 returns c = no-image _ (search needs)
 
-get-device-requires : tie.Need-get-device-requires
-get-device-requires c κs = search needs
+setting-fits-requires : tie.Need-setting-fits-requires
+setting-fits-requires c κs = search needs
 
-slice-aggregate-put-device : tie.Need-slice-aggregate-put-device
-slice-aggregate-put-device c = search needs
+scalars-fit-requires : tie.Need-scalars-fit-requires
+scalars-fit-requires c κs = search needs
 
-put-device-requires : tie.Need-put-device-requires
-put-device-requires c κs = search needs
+own-fit-requires : tie.Need-own-fit-requires
+own-fit-requires c κs = search needs
 
-slice-aggregate-alike : tie.Need-slice-aggregate-alike
-slice-aggregate-alike c = search needs
+fits-requires : tie.Need-fits-requires
+fits-requires c κs = search needs
 
-alike-requires : tie.Need-alike-requires
-alike-requires c κs = search needs
+fits-requires-2 : tie.Need-fits-requires-2
+fits-requires-2 c κs = search needs
+
+fits-requires-3 : tie.Need-fits-requires-3
+fits-requires-3 c κs = search needs
+
+fits-requires-4 : tie.Need-fits-requires-4
+fits-requires-4 c κs = search needs
 
 returns-2 : tie.Need-returns-2
-returns-2 c = image-again _ _ _ _ (c .before .before .before .before .before .get-device .ensures) (c .before .before .before .put-device .ensures) (c .alike .ensures)
+returns-2 c =
+    image-asked _ (search needs) (λ i. c .before .before .before .before .before .before .before .before .shared-slice-known .given i .fits) (c .before .before .before .before .before .before .setting-fits .ensures) (c .before .before .before .before .before .scalars-fit .ensures)
+    (c .before .before .before .before .own-fit .ensures) (c .before .before .before .fits2 .ensures) (c .before .before .fits3 .ensures) (c .before .fits4 .ensures) (c .fits5 .ensures)
 
 pub is-image-spec : {M : Type 1} → statement M
 is-image-spec =
     tie.close
     (tie.spec
     returns
-    get-device-requires
-    slice-aggregate-put-device
-    put-device-requires
-    slice-aggregate-alike
-    alike-requires
+    setting-fits-requires
+    scalars-fit-requires
+    own-fit-requires
+    fits-requires
+    fits-requires-2
+    fits-requires-3
+    fits-requires-4
     returns-2)
