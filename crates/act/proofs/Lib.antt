@@ -1,3 +1,4 @@
 pub mod Laws
 pub mod DoesLaws
 pub mod Loops
+pub mod Whole

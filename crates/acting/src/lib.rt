@@ -12,7 +12,7 @@ ghost use Prim.Native.Nat.{_≤_};
 ghost use lib.ListN.{length};
 ghost use Rattle.rules.specs.declared.Verdict.the-variants as Verdict;
 ghost use Rattle.act.specs.Lent.{_⇒_};
-ghost use Rattle.acting.specs.Ending.{begunAt, doneBy, clearedFrom, Settles, EndsCore};
+ghost use Rattle.acting.specs.Ending.{begunAt, refusedBy, doneBy, clearedFrom, Settles, EndsCore};
 
 // How far an act came, and the device's core then: on, with the journal's end, or off, and then nothing more happens.
 pub struct Reached {
@@ -22,7 +22,7 @@ pub struct Reached {
 
 // "Each gives its number and leaves window, device and used journal as at entry."
 pub fn refused(k: Core, why: Refusal, used: usize) -> Done
-    ensures { λ r. ⌜ r ≡ record { verdict = Verdict.Refused why; used = used; core = k } ⌝ }
+    ensures { λ r. ⌜ r ≡ refusedBy k (Verdict.Refused why) used ⌝ }
 {
     Done {
         verdict: Verdict::Refused(why),

@@ -17,10 +17,11 @@ pub fn tcd_read(d: Device, off: u32, size: u32) -> u32
     ensures { λ r. ⌜ r ≡ number (part (d .table) off size) ⌝ }
 {
     let at = off as usize;
+    let table = d.table;
     match size {
-        1 => words::get1(&d.table, at) as u32,
-        2 => words::get2(&d.table, at) as u32,
-        _ => words::get4(&d.table, at),
+        1 => words::get1(&table, at) as u32,
+        2 => words::get2(&table, at) as u32,
+        _ => words::get4(&table, at),
     }
 }
 

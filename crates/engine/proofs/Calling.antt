@@ -6,21 +6,16 @@ use Prim.Native.Nat.{ℕ, zero, suc, _<_}
 use native.Mathlib.Omega.{arith}
 use lib.Dec.{lit<}
 use lib.ListN.{length, replicate}
-use Rattle.rules.specs.Calls.{Asked, run, service, Told, told, toldActed, refusalNumber, verdictNumber, levelled, actOf, wrong, stagingAfter, worldOf, toldAfter, after}
+use Rattle.rules.specs.Calls.{Asked, run, service, Told, told, refusalNumber, verdictNumber, levelled, actOf, wrong, stagingAfter, worldOf, toldAfter, after}
 use Rattle.rules.specs.Carry.{perform, lending}
 use Rattle.rules.specs.Run.{runAll, serviceAll}
 use Rattle.rules.specs.State.{Device}
-use Rattle.rules.specs.View.{view}
-use Rattle.rules.specs.declared.Device.{Device as HeldDevice}
 use Rattle.rules.specs.declared.Heard.the-variants as Heard
 use Rattle.rules.specs.declared.Refusal.{Refusal}
 use Rattle.rules.specs.declared.Refusal.the-variants as Refusal
 use Rattle.rules.specs.declared.Verdict.{Verdict}
 use Rattle.rules.specs.declared.Verdict.the-variants as Verdict
 use Rattle.rules.proofs.CallLaws.{act-wrong}
-use Rattle.act.specs.Parts.{Arrays, whole, held, coreOf, arraysOf, toldDone}
-use Rattle.act.specs.declared.Core.{Core}
-use Rattle.act.specs.declared.Done.{Done}
 use Rattle.engine.specs.Runs.{turnsOf, callOf}
 
 -- a refusal's number is not 0
@@ -46,12 +41,6 @@ service-wrong base window journal used time pace = refl
 pub asked-wrong : (base window journal used time pace : ℕ) (again : Bool) → wrong base window journal used (callOf again time pace) ≡ wrong base window journal used (run time pace)
 asked-wrong base window journal used time pace true = service-wrong base window journal used time pace
 asked-wrong base window journal used time pace false = refl
-
--- a device by value, from its parts
-pub whole-told : (call : Asked) (base : ℕ) (d : HeldDevice) (y : Arrays) (w s j w′ s′ j′ : List ℕ) (used : ℕ) (k : Core) (r : Done) {e : HeldDevice} → k ≡ coreOf d
-    → toldDone Heard.Nothing r y w′ s′ j′ ≡ after call base (whole k (arraysOf d)) w s j used
-    → e ≡ held (r .core) y → toldActed (record { verdict = r .verdict; used = r .used; device = e }) w′ s′ j′ ≡ after call base (view d) w s j used
-whole-told call base d y w s j w′ s′ j′ used k r e f g = rw g (rw e at f)
 
 module _ (base : ℕ) (d : Device) (w s j : List ℕ) (used : ℕ) where
   told-wrong : (c : Asked) (x : ℕ) → 0 < x → wrong base (length w) (length j) used c ≡ x → told x Heard.Nothing d w s j used ≡ after c base d w s j used

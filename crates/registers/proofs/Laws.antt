@@ -9,13 +9,11 @@ use borrow.Author.Tests.{le-leb, leb-false, ltb-false, ne-eqb, lt-ltb}
 use lib.Dec.{eqb, ltb}
 use lib.ListN.{length, set, take, drop}
 use Rattle.rules.specs.Act.{Act, PENDING}
-use Rattle.rules.specs.Calls.{Asked, write, actOf, setPending, badSize, badJournal, isNone, orNothing, check, wrong, wrongRead, levelled, Told, told, toldActed, toldHeard, toldAfter, stagingAfter, toldReading, toldRead, refusalNumber, orZero, worldOf, after, afterRead}
+use Rattle.rules.specs.Calls.{Asked, write, actOf, setPending, badSize, badJournal, isNone, orNothing, check, wrong, wrongRead, levelled, Told, told, toldAfter, stagingAfter, toldReading, toldRead, refusalNumber, orZero, worldOf, after, afterRead}
 use Rattle.rules.specs.Carry.{Out, ok, changed, go, leave, perform, Lent, lending}
 use Rattle.rules.specs.Fields.{bitsOf, fieldsOf}
 use Rattle.rules.specs.Registers.{within, inBlocks, inTable, blockOf, offsetOf, dmaRead, dmaWrite, readIn, readAt, writeIn, writeAt, controllerWrite, pastTable, pastWord}
 use Rattle.rules.specs.State.{Device}
-use Rattle.rules.specs.View.{view}
-use Rattle.rules.specs.declared.Device.{Device as HeldDevice}
 use Rattle.rules.specs.declared.Heard.{Heard}
 use Rattle.rules.specs.declared.Heard.the-variants as Heard
 use Rattle.rules.specs.declared.Reading.the-variants as Reading
@@ -25,7 +23,7 @@ use Rattle.rules.specs.declared.Verdict.the-variants as Verdict
 use Rattle.rules.proofs.BoolLaws.{and-left, and-both}
 use Rattle.rules.proofs.Each.{Proper}
 use Rattle.act.specs.Does.{Answers, Does}
-use Rattle.act.specs.Parts.{Arrays, tabled, counted, taking, whole, held, coreOf, arraysOf, toldDone}
+use Rattle.act.specs.Parts.{Arrays, tabled, counted, taking, whole, toldDone}
 use Rattle.act.specs.Worlds.{on, cameTo}
 use Rattle.act.specs.declared.Core.{Core}
 use Rattle.act.specs.declared.Done.{Done}
@@ -305,15 +303,3 @@ module _ (k : Core) (x : Arrays) (q q′ : List ℕ) (used : ℕ) (j : List ℕ)
     heard-unmade v c =
         told-cleared k (taking x q) (taking x q′) h used w j w j j₂ fits (record { front = refl; long = refl }) base (lending (length staging)) m (record { walk = On used; core = k }) n (omega arith) left
         (taken-noted k (taking x q) p q′ used used j counts end) r is staging v c
-
--- ---- a device by value
-
-pub made-whole : (c : Asked) (base : ℕ) (d : HeldDevice) (y : Arrays) (w staging j j′ : List ℕ) (used : ℕ) (k : Core) (r : Done) {e : HeldDevice} → k ≡ coreOf d
-    → toldDone Heard.Nothing r y w staging j′ ≡ after c base (whole k (arraysOf d)) w staging j used
-    → e ≡ held (r .core) y → toldActed (record { verdict = r .verdict; used = r .used; device = e }) w staging j′ ≡ after c base (view d) w staging j used
-made-whole c base d y w staging j j′ used k r e f g = rw g (rw e at f)
-
-pub made-heard : (c : Asked) (h : Heard) (base : ℕ) (d : HeldDevice) (y : Arrays) (w staging j j′ : List ℕ) (used : ℕ) (k : Core) (r : Done) {e : HeldDevice} → k ≡ coreOf d
-    → toldDone h r y w staging j′ ≡ after c base (whole k (arraysOf d)) w staging j used
-    → e ≡ held (r .core) y → toldHeard (record { verdict = r .verdict; heard = h; used = r .used; device = e }) w staging j′ ≡ after c base (view d) w staging j used
-made-heard c h base d y w staging j j′ used k r e f g = rw g (rw e at f)

@@ -96,7 +96,9 @@ fn read_controller(d: Device, c: usize, off: u32, size: u32) -> Reading
     requires { ⌜ c < 3 ⌝ }
     ensures { λ r. ⌜ toldReading r ≡ readSo (check (isNone (readIn (view d) (suc c) off size)) 3 0) (readIn (view d) (suc c) off size) ⌝ }
 {
-    reading(intc::intc_read(device::controller_at(d, c), off, size))
+    let controllers = d.controllers;
+    let k = controllers[c];
+    reading(intc::intc_read(k, off, size))
 }
 
 // "Register read: full address, size."

@@ -1,5 +1,5 @@
 -- `engine::run` meets its contract, from that of its parts. Assumes nothing.
-use Rattle.engine.proofs.Calling.{whole-told}
+use Rattle.act.proofs.Whole.{whole-told}
 use Rattle.act.specs.Parts.{arraysOf, working}
 use Rattle.rules.proofs.Each.{typed-proper}
 use Rattle.rules.specs.Calls.{run}

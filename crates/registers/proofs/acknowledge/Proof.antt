@@ -1,5 +1,5 @@
 -- `registers::acknowledge` meets its contract, from that of its parts. Assumes nothing.
-use Rattle.registers.proofs.Laws.{made-heard}
+use Rattle.act.proofs.Whole.{whole-heard}
 use Rattle.act.specs.Parts.{arraysOf, taking}
 use Rattle.rules.proofs.Each.{typed-proper}
 use Rattle.rules.specs.Calls.{ack}
@@ -22,7 +22,7 @@ same-length c = search needs
 returns : tie.Need-returns
 returns c base w staging =
     let a = c .before .before .before .before .before .before .before .before .before .before .before .before .before .before .before .args in
-    made-heard (ack (a .ipl)) (c .before .before .before .before .before .before .before .before .before .acknowledge-in .result .heard) base (a .d) (taking (arraysOf (a .d)) _) w staging _ _ (a .used) _ (c .before .before .before .before .before .before .before .before .before .acknowledge-in .result .done) (c .before .before .before .before .before .before .before .before .before .before .before .before .core-of .ensures)
+    whole-heard (ack (a .ipl)) base (a .d) (taking (arraysOf (a .d)) _) w staging _ w staging _ (a .used) _ (c .before .before .before .before .before .before .before .before .before .acknowledge-in .result .done) (c .before .before .before .before .before .before .before .before .before .before .before .before .core-of .ensures) (c .before .before .before .before .before .before .before .before .before .acknowledge-in .result .heard)
     (c .before .before .before .before .before .before .before .before .before .acknowledge-in .ensures (arraysOf (a .d)) (rw (c .before .before .before .before .before .before .before .before .before .before .before .before .core-of .ensures) (typed-proper (a .d) (c .before .before .before .before .before .before .before .before .before .before .before .before .before .before .before .good .0))) base w staging) (c .device-of .ensures)
 
 pub acknowledge-spec : {M : Type 1} → statement M

@@ -1,5 +1,5 @@
 -- `registers::inputs` meets its contract, from that of its parts. Assumes nothing.
-use Rattle.registers.proofs.Laws.{made-whole}
+use Rattle.act.proofs.Whole.{whole-told}
 use Rattle.act.specs.Parts.{arraysOf}
 use Rattle.rules.proofs.Each.{typed-proper}
 use Rattle.rules.specs.Calls.{inputs}
@@ -22,7 +22,7 @@ same-length c = search needs
 returns : tie.Need-returns
 returns c base w staging =
     let a = c .before .before .before .before .before .before .before .before .before .before .before .before .before .before .args in
-    made-whole (inputs (a .standing) (a .lines0) (a .lines1) (a .lines2)) base (a .d) (arraysOf (a .d)) w staging _ _ (a .used) _ (c .before .before .before .before .before .before .before .before .inputs-in .result) (c .before .before .before .before .before .before .before .before .before .before .before .core-of .ensures)
+    whole-told (inputs (a .standing) (a .lines0) (a .lines1) (a .lines2)) base (a .d) (arraysOf (a .d)) w staging _ w staging _ (a .used) _ (c .before .before .before .before .before .before .before .before .inputs-in .result) (c .before .before .before .before .before .before .before .before .before .before .before .core-of .ensures)
     (c .before .before .before .before .before .before .before .before .inputs-in .ensures (arraysOf (a .d)) (rw (c .before .before .before .before .before .before .before .before .before .before .before .core-of .ensures) (typed-proper (a .d) (c .before .before .before .before .before .before .before .before .before .before .before .before .before .before .good .0))) base w staging) (c .device-of .ensures)
 
 pub inputs-spec : {M : Type 1} → statement M
