@@ -1,24 +1,20 @@
 -- The laws that the proofs of this crate cite: an entry, once its call has been made. Assumes nothing.
 use mathlib.Core.Bool.{true, false}
 use mathlib.Core.List.{List, []}
-use mathlib.Core.Path.{_≡_, refl, sym, ap, _∙_}
-use Prim.Native.Nat.{ℕ, suc, _+_, _*_, _%_, _^_, _≤_, _<_}
-use native.Mathlib.Nat.{add-assoc}
+use mathlib.Core.Path.{_≡_, refl, ap}
+use Prim.Native.Nat.{ℕ, _≤_, _<_}
 use native.Mathlib.Omega.{arith}
 use borrow.Author.Tests.{eq-eqb, ne-eqb, lt-ltb, le-ltb}
 use lib.Dec.{eqb}
 use lib.ListN.{length}
-use Rattle.rules.specs.Calls.{Told, ToldRead, fresh, run, after, toldActed, toldHeard, verdictNumber, heardLevel, heardVector}
+use Rattle.rules.specs.Calls.{Told, ToldRead, fresh, toldActed, toldHeard, verdictNumber, heardLevel, heardVector}
 use Rattle.rules.specs.declared.Acknowledged.{Acknowledged}
 use Rattle.rules.specs.declared.Acted.{Acted}
 use Rattle.rules.specs.State.{Device}
 use Rattle.rules.specs.View.{view}
 use Rattle.image.specs.Image.{imageOf, deviceIn, isImage}
-use Rattle.entries.specs.Entry.{packed, Left, left, leftBy, entered, readBy, enteredRead, freshened, leftOn, oneRun, repeated, enteredRuns}
-
-pub packed-sum : (status level vector low : ℕ) → status * 2 ^ 56 + (level * 2 ^ 40 + vector * 2 ^ 32) + low % 2 ^ 32 ≡ packed status level vector low
-unfolding packed
-packed-sum status level vector low = ap (λ n. n + low % 2 ^ 32) (sym (add-assoc (status * 2 ^ 56) (level * 2 ^ 40) (vector * 2 ^ 32)))
+use Rattle.answers.specs.Answers.{packed, left, leftBy, readBy}
+use Rattle.entries.specs.Entry.{entered, enteredRead, freshened}
 
 -- bytes that are no image, and what is left is what was given
 pub no-entry : (image window staging journal : List ℕ) (used : ℕ) (t : Told) {r : ℕ} → isImage image ≡ false → r ≡ packed 255 0 0 used
@@ -33,11 +29,11 @@ module _ (image window staging journal : List ℕ) (used : ℕ) (f : Device → 
   unfolding entered leftBy
   act-entry a q s = rw (h, ← p, ← q, s .0, s .1) refl
 
-  pub heard-entry : (a : Acknowledged) → toldHeard a window′ staging′ journal′ ≡ f d → {v l w : ℕ} → v ≡ verdictNumber (a .verdict) → l ≡ heardLevel (a .heard) → w ≡ heardVector (a .heard)
-      → r ≡ packed v l w (a .used) → image′ ≡ imageOf (view (a .device))
+  pub heard-entry : (a : Acknowledged) → toldHeard a window′ staging′ journal′ ≡ f d
+      → r ≡ packed (verdictNumber (a .verdict)) (heardLevel (a .heard)) (heardVector (a .heard)) (a .used) → image′ ≡ imageOf (view (a .device))
       → left r image′ window′ staging′ journal′ ≡ entered image window staging journal used (f (deviceIn image))
   unfolding entered leftBy
-  heard-entry a q i j k s t = rw (h, ← p, ← q, s, i, j, k, t) refl
+  heard-entry a q s t = rw (h, ← p, ← q, s, t) refl
 
 pub no-read : (image : List ℕ) (t : ToldRead) {r : ℕ} → isImage image ≡ false → r ≡ packed 255 0 0 0 → r ≡ enteredRead image t
 unfolding enteredRead
@@ -61,32 +57,3 @@ module _ (image : List ℕ) (ignore : ℕ) where
   pub fresh-entry : length image ≡ 8720 → ignore ≤ 1 → {d : Device} {image′ : List ℕ} → d ≡ fresh (eqb ignore 1) → image′ ≡ imageOf d → left 0 image′ [] [] [] ≡ freshened image ignore
   unfolding freshened
   fresh-entry h k p q = rw (eq-eqb (length image) 8720 h, lt-ltb ignore 2 (omega (arith, k)), q, p) refl
-
--- ---- many runs
-
-one-more : (k : ℕ) (f : Left → Left) (l : Left) → repeated (suc k) f l ≡ repeated k f (f l)
-unfolding repeated
-one-more k f l = refl
-
-module _ (n time pace base : ℕ) (image window staging journal : List ℕ) where
-  pub no-runs : {r : ℕ} → isImage image ≡ false → r ≡ packed 255 0 0 0 → left r image window staging journal ≡ enteredRuns n time pace base image window staging journal
-  unfolding enteredRuns
-  no-runs h p = rw h (ap (λ m. left m image window staging journal) p)
-
-  pub runs-turn : (d : Device) (a : Acted) (answer k : ℕ) {l r : ℕ} {window′ staging′ journal′ : List ℕ} {w : Left} → suc k ≡ l
-      → repeated l (oneRun time pace base d) (left answer image window staging journal) ≡ w
-      → toldActed a window′ staging′ journal′ ≡ after (run time pace) base d window staging journal 0
-      → r ≡ packed (verdictNumber (a .verdict)) 0 0 (a .used)
-      → repeated k (oneRun time pace base d) (left r image window′ staging′ journal′) ≡ w
-  runs-turn d a answer k {l} {r} {window′} {staging′} {journal′} {w} e i q p =
-      let step : oneRun time pace base d (left answer image window staging journal) ≡ left r image window′ staging′ journal′ = (unfold oneRun leftOn in rw (← q, p) refl) in
-      let here : repeated (suc k) (oneRun time pace base d) (left answer image window staging journal) ≡ w = ap (λ m. repeated m (oneRun time pace base d) (left answer image window staging journal)) e ∙ i in
-      sym (ap (repeated k (oneRun time pace base d)) step) ∙ sym (one-more k (oneRun time pace base d) (left answer image window staging journal)) ∙ here
-
-  pub runs-entry : {d : Device} {r l : ℕ} {window′ staging′ journal′ : List ℕ} → isImage image ≡ true → d ≡ deviceIn image → l ≡ 0
-      → repeated l (oneRun time pace base d) (left r image window′ staging′ journal′) ≡ repeated n (oneRun time pace base d) (left 0 image window staging journal)
-      → left r image window′ staging′ journal′ ≡ enteredRuns n time pace base image window staging journal
-  unfolding enteredRuns
-  runs-entry {d} {r} {l} {window′} {staging′} {journal′} h p e i =
-      let done : left r image window′ staging′ journal′ ≡ repeated l (oneRun time pace base d) (left r image window′ staging′ journal′) = rw e (unfold repeated in refl) in
-      rw (h, ← p) (done ∙ i)

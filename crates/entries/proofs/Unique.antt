@@ -10,21 +10,22 @@ use Rattle.rules.proofs.Each.{Proper}
 use Rattle.image.specs.Image.{imageOf, deviceIn, isImage}
 use Rattle.image.proofs.Round.{proper-round}
 use Rattle.image.proofs.Rows.{image-is}
-use Rattle.entries.specs.Entry.{Left, left, leftBy, entered}
+use Rattle.answers.specs.Answers.{Left, left, leftBy}
+use Rattle.entries.specs.Entry.{entered}
 
 left-parts : {r r′ : ℕ} {image image′ window window′ staging staging′ journal journal′ : List ℕ} → left r image window staging journal ≡ left r′ image′ window′ staging′ journal′
     → (r ≡ r′) × (image ≡ image′) × (window ≡ window′) × (staging ≡ staging′) × (journal ≡ journal′)
 left-parts e = (cc, cc, cc, cc, cc)
 
 -- whatever it is that both equal
-pub entry-fixed : (l : Left) {r r′ : ℕ} {image image′ window window′ staging staging′ journal journal′ : List ℕ}
+pub entry-fixed : (l : Left (List ℕ)) {r r′ : ℕ} {image image′ window window′ staging staging′ journal journal′ : List ℕ}
     → left r image window staging journal ≡ l → left r′ image′ window′ staging′ journal′ ≡ l
     → (r ≡ r′) × (image ≡ image′) × (window ≡ window′) × (staging ≡ staging′) × (journal ≡ journal′)
 entry-fixed l p q = left-parts (p ∙ sym q)
 
 -- on the image of a proper device, and every value of the declared type is one, whatever the call tells of a device
 pub entry-is-call : (d : Device) → Proper d → (f : Device → Told) (window staging journal : List ℕ) (used : ℕ)
-    → entered (imageOf d) window staging journal used (f (deviceIn (imageOf d))) ≡ leftBy (f d)
+    → entered (imageOf d) window staging journal used (f (deviceIn (imageOf d))) ≡ leftBy imageOf (f d)
 unfolding entered
 entry-is-call d g f window staging journal used = let r = proper-round d g in rw (r .0, r .1) refl
 

@@ -1,24 +1,15 @@
--- What no entry does that meets its contract: put a number of its answer in another place, or turn the setting round. By computation. On the image
--- of a device the entries are the calls (`Unique.entry-is-call`), so that what shuts out wrong programs for the calls does so for them. Assumes
--- nothing.
+-- What no entry does that meets its contract: turn the setting round. By computation. On the image of a device the entries are the calls
+-- (`Unique.entry-is-call`), so that what shuts out wrong programs for the calls does so for them; the places in an answer: crate `answers`,
+-- proofs/Reading. Assumes nothing.
 use mathlib.Core.Bool.{true, false}
-use mathlib.Core.List.{List, [], _∷_}
-use mathlib.Core.Path.{_≡_, refl}
+use mathlib.Core.List.{List, []}
+use mathlib.Core.Path.{_≡_}
 use Prim.Native.Nat.{ℕ}
 use lib.ListN.{length}
 use Rattle.rules.specs.Calls.{fresh}
 use Rattle.image.specs.Image.{imageOf}
-use Rattle.entries.specs.Entry.{left, packed, freshened}
-
--- status, level, vector and the low 32 bits of a number, each in its place
-pub in-its-place : packed 9 0 0 16 ∷ packed 0 7 0 0 ∷ packed 0 0 255 0 ∷ packed 255 7 255 0x123456789 ∷ []
-    ≡ 0x0900000000000010
-    ∷ 0x0000070000000000
-    ∷ 0x000000FF00000000
-    ∷ 0xFF0007FF23456789
-    ∷ []
-unfolding packed
-in-its-place = refl
+use Rattle.answers.specs.Answers.{left, packed}
+use Rattle.entries.specs.Entry.{freshened}
 
 -- 1 ignores masks and 0 does not; 2 is refused, and so are 8,719 bytes
 pub setting-1 : (image : List ℕ) → length image ≡ 8720 → freshened image 1 ≡ left 0 (imageOf (fresh true)) [] [] []

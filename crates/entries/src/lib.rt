@@ -1,60 +1,17 @@
 // The C entries: for C or Rust to link. Each is thin: image to device, the call, device to image; docs/ABI.md says what they are given and answer.
 // Their contracts are those of the calls between two images (specs/Entry.antt).
 use rules::Acted;
-use rules::Heard;
-use rules::Reading;
-use rules::Verdict;
 ghost use mathlib.Core.List.{[]};
 ghost use mathlib.Core.Path.{_≡_};
 ghost use Prim.Native.Nat.{_%_, _^_};
 ghost use lib.ListN.{length};
-ghost use Rattle.rules.specs.Calls.{verdictNumber, heardLevel, heardVector, toldReading, after, afterBack, afterRead, write, inputs, pending, run, service, ack};
+ghost use Rattle.rules.specs.Calls.{verdictNumber, after, afterBack, afterRead, write, inputs, pending, run, service, ack};
 ghost use Rattle.rules.specs.View.{view};
 ghost use Rattle.image.specs.Image.{imageOf, deviceIn};
-ghost use Rattle.entries.specs.Entry.{packed, left, entered, Aside, readBy, enteredRead, freshened, enteredRuns};
+ghost use Rattle.answers.specs.Answers.{packed, left};
+ghost use Rattle.entries.specs.Entry.{entered, Aside, enteredRead, freshened};
 
 // ---- answers
-
-fn level_of(h: Heard) -> u8
-    ensures { λ n. ⌜ n ≡ heardLevel h ⌝ }
-{
-    match h {
-        Heard::Nothing => 0,
-        Heard::Source(level, _) => level,
-    }
-}
-
-fn vector_of(h: Heard) -> u8
-    ensures { λ n. ⌜ n ≡ heardVector h ⌝ }
-{
-    match h {
-        Heard::Nothing => 0,
-        Heard::Source(_, vector) => vector,
-    }
-}
-
-fn packed(status: u8, level: u8, vector: u8, low: u64) -> u64
-    ensures { λ r. ⌜ r ≡ packed status level vector low ⌝ }
-{
-    let high = status as u64 * 0x0100000000000000;
-    let heard = level as u64 * 0x010000000000 + vector as u64 * 0x0100000000;
-    high + heard + low % 0x0100000000
-}
-
-fn answer_of(v: Verdict, used: usize) -> u64
-    ensures { λ r. ⌜ r ≡ packed (verdictNumber v) 0 0 used ⌝ }
-{
-    packed(numbers::verdict_number(v), 0, 0, used as u64)
-}
-
-fn reading_of(r: Reading) -> u64
-    ensures { λ n. ⌜ n ≡ readBy (toldReading r) ⌝ }
-{
-    match r {
-        Reading::Value(v) => packed(0, 0, 0, v as u64),
-        Reading::Refused(why) => packed(numbers::refusal_number(why), 0, 0, 0),
-    }
-}
 
 // The device that an act or a take-back answers, laid down; and its answer.
 fn put_back(image: &mut [u8], r: Acted) -> u64
@@ -63,7 +20,7 @@ fn put_back(image: &mut [u8], r: Acted) -> u64
 {
     image::put_device(image, r.device);
     let v = r.verdict;
-    answer_of(v, r.used)
+    answers::answer_of(v, r.used)
 }
 
 // ---- the entries
@@ -74,10 +31,10 @@ pub extern "C" fn kp_fresh(image: &mut [u8], ignore_masks: u32) -> u64
     ensures { λ r. ⌜ left r (now (image .exit)) [] [] [] ≡ freshened (now (image .entry)) «ignore_masks» ⌝ }
 {
     if image.len() != image::BYTES {
-        return packed(255, 0, 0, 0);
+        return answers::packed(255, 0, 0, 0);
     }
     if 1 < ignore_masks {
-        return packed(255, 0, 0, 0);
+        return answers::packed(255, 0, 0, 0);
     }
     image::put_device(image, device::fresh(ignore_masks == 1));
     0
@@ -88,9 +45,9 @@ pub extern "C" fn kp_read(image: &[u8], address: u32, size: u32) -> u64
     ensures { λ r. ⌜ r ≡ enteredRead (now (image .entry)) (afterRead (deviceIn (now (image .entry))) address size) ⌝ }
 {
     if !image::is_image(image) {
-        return packed(255, 0, 0, 0);
+        return answers::packed(255, 0, 0, 0);
     }
-    reading_of(registers::read(image::get_device(image), address, size))
+    answers::reading_of(registers::read(image::get_device(image), address, size))
 }
 
 #[no_mangle]
@@ -105,7 +62,7 @@ pub extern "C" fn kp_write(
     ensures { λ r. ⌜ Aside (write address size value) (now (image .entry)) (now (image .exit)) (now (journal .entry)) (now (journal .exit)) used r ⌝ }
 {
     if !image::is_image(image) {
-        return packed(255, 0, 0, used);
+        return answers::packed(255, 0, 0, used);
     }
     let d = image::get_device(image);
     let r = registers::write(d, address, size, value, journal, used as usize);
@@ -125,7 +82,7 @@ pub extern "C" fn kp_inputs(
     ensures { λ r. ⌜ Aside (inputs standing lines0 lines1 lines2) (now (image .entry)) (now (image .exit)) (now (journal .entry)) (now (journal .exit)) used r ⌝ }
 {
     if !image::is_image(image) {
-        return packed(255, 0, 0, used);
+        return answers::packed(255, 0, 0, used);
     }
     let d = image::get_device(image);
     let r = registers::inputs(d, standing, lines0, lines1, lines2, journal, used as usize);
@@ -143,7 +100,7 @@ pub extern "C" fn kp_pending(
     ensures { λ r. ⌜ Aside (pending channel count) (now (image .entry)) (now (image .exit)) (now (journal .entry)) (now (journal .exit)) used r ⌝ }
 {
     if !image::is_image(image) {
-        return packed(255, 0, 0, used);
+        return answers::packed(255, 0, 0, used);
     }
     let d = image::get_device(image);
     let r = registers::pending(d, channel, count, journal, used as usize);
@@ -164,7 +121,7 @@ pub extern "C" fn kp_run(
     ensures { λ r. ⌜ left r (now (image .exit)) (now (window .exit)) (now (staging .exit)) (now (journal .exit)) ≡ entered (now (image .entry)) (now (window .entry)) (now (staging .entry)) (now (journal .entry)) used (after (run time pace) base (deviceIn (now (image .entry))) (now (window .entry)) (now (staging .entry)) (now (journal .entry)) used) ⌝ }
 {
     if !image::is_image(image) {
-        return packed(255, 0, 0, used);
+        return answers::packed(255, 0, 0, used);
     }
     let d = image::get_device(image);
     let r = engine::run(d, time, pace, base, window, staging, journal, used as usize);
@@ -185,7 +142,7 @@ pub extern "C" fn kp_service(
     ensures { λ r. ⌜ left r (now (image .exit)) (now (window .exit)) (now (staging .exit)) (now (journal .exit)) ≡ entered (now (image .entry)) (now (window .entry)) (now (staging .entry)) (now (journal .entry)) used (after (service time pace) base (deviceIn (now (image .entry))) (now (window .entry)) (now (staging .entry)) (now (journal .entry)) used) ⌝ }
 {
     if !image::is_image(image) {
-        return packed(255, 0, 0, used);
+        return answers::packed(255, 0, 0, used);
     }
     let d = image::get_device(image);
     let r = engine::service(d, time, pace, base, window, staging, journal, used as usize);
@@ -198,19 +155,14 @@ pub extern "C" fn kp_acknowledge(image: &mut [u8], ipl: u32, journal: &mut [u8],
     ensures { λ r. ⌜ Aside (ack (ipl % 2 ^ 8)) (now (image .entry)) (now (image .exit)) (now (journal .entry)) (now (journal .exit)) used r ⌝ }
 {
     if !image::is_image(image) {
-        return packed(255, 0, 0, used);
+        return answers::packed(255, 0, 0, used);
     }
     let d = image::get_device(image);
     let a = registers::acknowledge(d, (ipl % 0x100) as u8, journal, used as usize);
     image::put_device(image, a.device);
     let v = a.verdict;
     let h = a.heard;
-    packed(
-        numbers::verdict_number(v),
-        level_of(h),
-        vector_of(h),
-        a.used as u64,
-    )
+    answers::heard_answer(v, h, a.used)
 }
 
 #[no_mangle]
@@ -224,38 +176,9 @@ pub extern "C" fn kp_take_back(
     ensures { λ r. ⌜ left r (now (image .exit)) (now (window .exit)) [] (now (journal .exit)) ≡ entered (now (image .entry)) (now (window .entry)) [] (now (journal .entry)) used (afterBack base (deviceIn (now (image .entry))) (now (window .entry)) (now (journal .entry)) used) ⌝ }
 {
     if !image::is_image(image) {
-        return packed(255, 0, 0, used);
+        return answers::packed(255, 0, 0, used);
     }
     let d = image::get_device(image);
     let r = back::take_back(d, base, window, journal, used as usize);
     put_back(image, r)
-}
-
-// For the measurement: many runs inside one call. The answer is that of the last.
-#[no_mangle]
-pub extern "C" fn kp_speed_run(
-    image: &[u8],
-    count: u64,
-    time: u64,
-    pace: u64,
-    base: u32,
-    window: &mut [u8],
-    staging: &mut [u8],
-    journal: &mut [u8],
-) -> u64
-    ensures { λ r. ⌜ left r (now (image .entry)) (now (window .exit)) (now (staging .exit)) (now (journal .exit)) ≡ enteredRuns count time pace base (now (image .entry)) (now (window .entry)) (now (staging .entry)) (now (journal .entry)) ⌝ }
-{
-    if !image::is_image(image) {
-        return packed(255, 0, 0, 0);
-    }
-    let d = image::get_device(image);
-    let mut answer = 0u64;
-    let mut left = count;
-    while 0 < left {
-        let r = engine::run(d, time, pace, base, window, staging, journal, 0);
-        let v = r.verdict;
-        answer = answer_of(v, r.used);
-        left -= 1;
-    }
-    answer
 }

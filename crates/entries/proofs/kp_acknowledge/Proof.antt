@@ -35,17 +35,8 @@ acknowledge-requires c κs = search needs
 put-device-requires : tie.Need-put-device-requires
 put-device-requires c κs = omega (arith, image-long (now (c .before .before .before .before .before .before .before .before .before .before .before .before .args .image)) (sym (c .before .before .before .before .before .before .before .before .is-image .ensures) ∙ not-false _ (c .before .before .before .before .before .before .before .if1 .left)))
 
-verdict-number-requires : tie.Need-verdict-number-requires
-verdict-number-requires c κs = search needs
-
-level-of-requires : tie.Need-level-of-requires
-level-of-requires c κs = search needs
-
-vector-of-requires : tie.Need-vector-of-requires
-vector-of-requires c κs = search needs
-
-packed-requires-2 : tie.Need-packed-requires-2
-packed-requires-2 c κs = search needs
+heard-answer-requires : tie.Need-heard-answer-requires
+heard-answer-requires c κs = search needs
 
 same-length-2 : tie.Need-same-length-2
 same-length-2 c = search needs
@@ -55,8 +46,8 @@ same-length-3 c = search needs
 
 returns-2 : tie.Need-returns-2
 returns-2 c =
-    let a = c .before .before .before .before .before .before .before .before .before .before .before .before .before .before .before .before .before .before .before .args in λ base window staging.
-    heard-entry (now (a .image)) window staging (now (a .journal)) (a .used) (λ d. after (ack (a .ipl % 2 ^ 8)) base d window staging (now (a .journal)) (a .used)) (sym (c .before .before .before .before .before .before .before .before .before .before .before .before .before .before .before .is-image .ensures) ∙ not-false _ (c .before .before .before .before .before .before .before .before .before .before .before .before .before .before .if1 .left)) (c .before .before .before .before .before .before .before .before .before .before .before .before .get-device .ensures) (c .before .before .before .before .before .before .before .before .before .before .acknowledge .result) (c .before .before .before .before .before .before .before .before .before .before .acknowledge .ensures base window staging) (c .before .before .before .verdict-number .ensures) (c .before .before .level-of .ensures) (c .before .vector-of .ensures) (c .packed2 .ensures) (c .before .before .before .before .before .before .put-device .ensures)
+    let a = c .before .before .before .before .before .before .before .before .before .before .before .before .before .before .before .before .args in λ base window staging.
+    heard-entry (now (a .image)) window staging (now (a .journal)) (a .used) (λ d. after (ack (a .ipl % 2 ^ 8)) base d window staging (now (a .journal)) (a .used)) (sym (c .before .before .before .before .before .before .before .before .before .before .before .before .is-image .ensures) ∙ not-false _ (c .before .before .before .before .before .before .before .before .before .before .before .if1 .left)) (c .before .before .before .before .before .before .before .before .before .get-device .ensures) (c .before .before .before .before .before .before .before .acknowledge .result) (c .before .before .before .before .before .before .before .acknowledge .ensures base window staging) (c .heard-answer .ensures) (c .before .before .before .put-device .ensures)
 
 pub kp-acknowledge-spec : {M : Type 1} → statement M
 kp-acknowledge-spec =
@@ -70,10 +61,7 @@ kp-acknowledge-spec =
     cast-acknowledge
     acknowledge-requires
     put-device-requires
-    verdict-number-requires
-    level-of-requires
-    vector-of-requires
-    packed-requires-2
+    heard-answer-requires
     same-length-2
     same-length-3
     returns-2)

@@ -1,8 +1,8 @@
--- `entries::packed` meets its contract. Assumes nothing.
-use Rattle.entries.proofs.Laws.{packed-sum}
+-- `answers::packed` meets its contract. Assumes nothing.
+use Rattle.answers.proofs.Laws.{packed-sum}
 use borrow.Author.Needs.{needs}
-use Rattle.entries.proofs.packed.Statement.{statement}
-use Rattle.entries.proofs.packed.Tie as tie
+use Rattle.answers.proofs.packed.Statement.{statement}
+use Rattle.answers.proofs.packed.Tie as tie
 
 mul-high : tie.Need-mul-high
 mul-high c = search needs

@@ -1,8 +1,8 @@
--- `entries::reading_of` meets its contract. Assumes nothing.
-use Rattle.entries.specs.Entry.{readBy}
+-- `answers::reading_of` meets its contract. Assumes nothing.
+use Rattle.answers.specs.Answers.{readBy}
 use borrow.Author.Needs.{needs}
-use Rattle.entries.proofs.reading_of.Statement.{statement}
-use Rattle.entries.proofs.reading_of.Tie as tie
+use Rattle.answers.proofs.reading_of.Statement.{statement}
+use Rattle.answers.proofs.reading_of.Tie as tie
 
 enum-known-r : tie.Need-enum-known-r
 enum-known-r c = search needs

@@ -1,8 +1,8 @@
--- `entries::answer_of` meets its contract. Assumes nothing.
+-- `answers::answer_of` meets its contract. Assumes nothing.
 use mathlib.Core.Path.{refl}
 use borrow.Author.Needs.{needs}
-use Rattle.entries.proofs.answer_of.Statement.{statement}
-use Rattle.entries.proofs.answer_of.Tie as tie
+use Rattle.answers.proofs.answer_of.Statement.{statement}
+use Rattle.answers.proofs.answer_of.Tie as tie
 
 verdict-number-requires : tie.Need-verdict-number-requires
 verdict-number-requires c κs = search needs

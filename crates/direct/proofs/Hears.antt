@@ -1,0 +1,114 @@
+-- An acknowledge changes no field but the counts of what was taken. Assumes nothing.
+use mathlib.Core.Bool.{true, false}
+use mathlib.Core.List.{List}
+use mathlib.Core.Path.{_≡_, refl}
+use Prim.Native.Nat.{ℕ, zero, suc, _%_, _^_}
+use lib.Dec.{eqb, leb}
+use lib.ListN.{length}
+use Rattle.rules.specs.Act.{Field, SCALAR, MASKS, FORCED, LINES, CONFIG, BUSY, MAJORS, PENDING, SOURCE, TAKEN, IGNORE}
+use Rattle.rules.specs.Calls.{ack, wrong, actOf, stagingAfter, told, deviceTold, toldAfter, worldOf, after}
+use Rattle.rules.specs.Carry.{World, Out, ok, no, made, unmade, withDevice, lastLines, written, cleared, leave, perform, lending}
+use Rattle.rules.specs.Fields.{bitsOf}
+use Rattle.rules.specs.Lines.{Found, sources, levelBytes, heardFrom, hear, acknowledge}
+use Rattle.rules.specs.State.{Device}
+use Rattle.rules.specs.declared.Heard.{Heard}
+use Rattle.rules.specs.declared.Heard.the-variants as Heard
+use Rattle.rules.proofs.Each.{Rights, Each, at-done, _>>=_, _>>_, each-ask, each-change, each-look, each-cond, Proper, Properly, each-keeps}
+use Rattle.rules.proofs.Keeps.{AtEnd}
+use Rattle.rules.proofs.Steps.{putting}
+
+-- ---- its steps
+
+abbrev OfTaken : Field → Type 0
+OfTaken (SCALAR i) = ⊥
+OfTaken (MASKS c) = ⊥
+OfTaken (FORCED c) = ⊥
+OfTaken (LINES c) = ⊥
+OfTaken (CONFIG c) = ⊥
+OfTaken (BUSY ch) = ⊥
+OfTaken (MAJORS ch) = ⊥
+OfTaken (PENDING ch) = ⊥
+OfTaken (SOURCE c s) = ⊥
+OfTaken (TAKEN i) = Unit {0}
+
+abbrev counting : Rights
+counting = record { may-stage = λ n. ⊥; may-fetch = λ sp a n. ⊥; may-store = λ sp a n. ⊥; may-put = OfTaken }
+
+sources-counting : (c : ℕ) → Each counting (sources c)
+unfolding sources
+sources-counting c = do
+  ignore ← each-look IGNORE
+  lines ← each-ask (LINES c)
+  masks ← each-ask (MASKS c)
+  forced ← each-ask (FORCED c)
+  at-done
+
+levels-counting : (c left s : ℕ) → Each counting (levelBytes c left s)
+unfolding levelBytes
+levels-counting c zero s = at-done
+levels-counting c (suc left) s = do
+  l ← each-ask (SOURCE c s)
+  rest ← levels-counting c left (suc s)
+  at-done
+
+heard-counting : (ipl c : ℕ) (below : Found) → Each counting (heardFrom ipl c below)
+unfolding heardFrom
+heard-counting ipl c below = do
+  m ← sources-counting c
+  levels ← levels-counting c 64 0
+  at-done
+
+acknowledge-counting : (ipl : ℕ) → Each counting (acknowledge ipl)
+unfolding acknowledge hear
+acknowledge-counting ipl = do
+  h0 ← heard-counting ipl 0 (0, 0)
+  h1 ← heard-counting ipl 1 h0
+  h2 ← heard-counting ipl 2 h1
+  each-cond (eqb (h2 .0) 0) (λ _. at-done) (λ _. do
+    each-change (TAKEN (h2 .1)) _ tt
+    at-done)
+
+-- ---- the device
+
+module _ (d : Device) where
+  abbrev As : Device → Type 0
+  As e = (e .scalars ≡ d .scalars) × (e .controllers ≡ d .controllers)
+
+  abbrev On : World → Type 0
+  On u = As (u .now .dev)
+
+  on-put : (f : Field) (v : ℕ) (u : World) → Proper (u .now .dev) → OfTaken f → On u → On (putting f (v % 2 ^ bitsOf f) u)
+  unfolding withDevice
+  on-put (SCALAR i) v u q h p = absurd h
+  on-put (MASKS c) v u q h p = absurd h
+  on-put (FORCED c) v u q h p = absurd h
+  on-put (LINES c) v u q h p = absurd h
+  on-put (CONFIG c) v u q h p = absurd h
+  on-put (BUSY ch) v u q h p = absurd h
+  on-put (MAJORS ch) v u q h p = absurd h
+  on-put (PENDING ch) v u q h p = absurd h
+  on-put (SOURCE c s) v u q h p = absurd h
+  on-put (TAKEN i) v u q h p = p
+
+  ended : (u : World) (o : Out Heard) (staging : List ℕ) (used : ℕ) → On u → AtEnd (Properly On) o → As (deviceTold (toldAfter staging used (leave u o)))
+  unfolding leave toldAfter written cleared
+  ended u (ok a v) staging used p q =
+      elim (leb (length (lastLines u v)) (length (v .free))) as (λ b. As (deviceTold (toldAfter staging used (elim b [ true ↦ made a (written (lastLines u v) v) | false ↦ unmade 11 (cleared u) ])))) [
+        | true ↦ q .1
+        | false ↦ p
+      ]
+  ended u (no n v) staging used p q = p
+
+  module _ (base : ℕ) (window staging journal : List ℕ) (used ipl : ℕ) (proper : Proper d) where
+    pub ack-keeps : As (deviceTold (after (ack ipl) base d window staging journal used))
+    unfolding after perform actOf
+    ack-keeps = by-number (wrong base (length window) (length journal) used (ack ipl))
+      where
+        by-number : (n : ℕ) → As (deviceTold (elim n [
+          | zero ↦ toldAfter (stagingAfter (ack ipl) staging) used (perform base (lending (length staging)) (actOf (ack ipl)) (worldOf d window journal used))
+          | suc n ↦ told (suc n) Heard.Nothing d window staging journal used
+        ]))
+        by-number zero =
+            ended (worldOf d window journal used) _ _ used (refl, refl)
+            (each-keeps base (lending (length staging)) counting On (λ sp a n v u q h. absurd h) on-put (acknowledge-counting ipl) (worldOf d window journal used) (proper, (refl, refl)))
+        by-number (suc n) = (refl, refl)

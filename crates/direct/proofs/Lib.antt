@@ -1,0 +1,5 @@
+pub mod Hears
+pub mod Laws
+pub mod Rows
+pub mod Unique
+pub mod Walls
