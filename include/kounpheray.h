@@ -1,16 +1,25 @@
 /* Kounpheray: a DMA engine of 64 channels with its registers and three
- * interrupt controllers, that can step back. The C entries of its archive,
- * libentries.a, for x86-64. docs/ABI.md says the same with more words.
+ * interrupt controllers, that can step back. The C entries of its archives,
+ * for x86-64. docs/ABI.md says the same with more words.
+ *
+ * There are two families with the same calls. kp_device_* (libdirect.a) work
+ * on a struct kp_device in the caller's memory: a call costs its own work.
+ * kp_* (libentries.a) work on an image, 8,720 bytes, which they test and
+ * unpack first: an image is how a device is saved, sent and compared.
  *
  * Every entry is total: whatever it is given, it reads and writes nothing but
- * the bytes it is lent, keeps no pointer, and returns. Nothing is allocated.
- * The byte ranges of one call must not overlap. A pointer must not be NULL; a
- * range of length 0 may have any other pointer.
+ * what it is lent, keeps no pointer, and returns. Nothing is allocated.
  *
- * The caller owns the device image, the window (a part of the guest's memory,
- * whose first byte has the address `base`), the staging (room for passes whose
- * sizes differ) and the journal with its used length. After a refusal image,
- * window and used journal are as they were. */
+ * The caller owns the device, the window (a part of the guest's memory, whose
+ * first byte has the address `base`), the staging (room for passes whose sizes
+ * differ) and the journal with its used length. After a refusal device, window
+ * and used journal are as they were.
+ *
+ * What a caller owes: no pointer is NULL (a range of length 0 may have any
+ * other pointer); the ranges of one call overlap neither each other nor the
+ * device; of a struct kp_device besides, that it is aligned as the compiler
+ * aligns it, that every byte was set once (static, calloc or = {0} will do),
+ * and that ignore_masks is 0 or 1. Every other content is a device. */
 #ifndef KOUNPHERAY_H
 #define KOUNPHERAY_H
 
@@ -20,6 +29,9 @@
 #ifdef __cplusplus
 extern "C" {
 #endif
+
+/* Rises by one when an entry gets another argument. */
+#define KP_ABI 1
 
 /* The length of a device image. */
 #define KP_IMAGE 8720
@@ -65,50 +77,143 @@ static inline unsigned kp_vector(uint64_t answer) { return (unsigned)(answer >> 
  * journal, which is the one given where the call was refused. */
 static inline uint32_t kp_low(uint64_t answer) { return (uint32_t)answer; }
 
+/* ---- a device in memory: libdirect.a */
+
+/* One interrupt controller. */
+struct kp_controller {
+    uint64_t masks;     /* IMR */
+    uint64_t forced;    /* FRC */
+    uint64_t lines;
+    uint8_t levels[64]; /* of its sources */
+    uint16_t config;    /* ICONFIG */
+};
+
+/* The numbers that stand alone. */
+struct kp_scalars {
+    uint64_t erq, eei, interrupts, err, kick, deferred;
+    uint64_t deadline; /* the time by which the caller is to come back */
+    uint64_t standing; /* requests */
+    uint32_t cr;
+    uint8_t level; /* that the processor sees */
+};
+
+/* The whole device. Fields may be read and set between calls. */
+struct kp_device {
+    struct kp_scalars scalars;
+    uint8_t table[2048]; /* 64 descriptors, big-endian as the guest sees them */
+    uint64_t busy[64];
+    uint64_t majors[64];
+    uint64_t taken[192]; /* how often vector 64 + n was taken */
+    uint32_t pending[64];
+    struct kp_controller controllers[3];
+    uint8_t ignore_masks; /* 0 or 1 */
+};
+
+/* The compiler lays it out as the archive has it: else this does not compile. */
+typedef char kp_device_layout[(sizeof(struct kp_controller) == 96 &&
+                               offsetof(struct kp_controller, levels) == 24 &&
+                               offsetof(struct kp_controller, config) == 88 &&
+                               sizeof(struct kp_scalars) == 72 &&
+                               offsetof(struct kp_scalars, standing) == 56 &&
+                               offsetof(struct kp_scalars, cr) == 64 &&
+                               offsetof(struct kp_scalars, level) == 68 &&
+                               sizeof(struct kp_device) == 5232 &&
+                               offsetof(struct kp_device, table) == 72 &&
+                               offsetof(struct kp_device, busy) == 2120 &&
+                               offsetof(struct kp_device, majors) == 2632 &&
+                               offsetof(struct kp_device, taken) == 3144 &&
+                               offsetof(struct kp_device, pending) == 4680 &&
+                               offsetof(struct kp_device, controllers) == 4936 &&
+                               offsetof(struct kp_device, ignore_masks) == 5224)
+                                  ? 1
+                                  : -1];
+
 /* Makes a fresh device: zero in every field but the masks (all ones) and the
  * deadline (2^64 - 1). ignore_masks: 0, or 1 for a device whose controllers
- * ignore their masks; 255 is answered for any other number. */
-uint64_t kp_fresh(uint8_t *image, size_t image_len, uint32_t ignore_masks);
+ * ignore their masks; 255 is answered for any other number, and the device
+ * stays. */
+uint64_t kp_device_fresh(struct kp_device *device, uint32_t ignore_masks);
 
 /* Reads a register. Writes nothing. */
-uint64_t kp_read(const uint8_t *image, size_t image_len, uint32_t address, uint32_t size);
+uint64_t kp_device_read(const struct kp_device *device, uint32_t address, uint32_t size);
 
 /* The acts. Each that is accepted writes one group behind the used part of
  * the journal and answers the new used length. */
 
 /* Writes a register. */
-uint64_t kp_write(uint8_t *image, size_t image_len, uint32_t address, uint32_t size,
-                  uint32_t value, uint8_t *journal, size_t journal_len, uint64_t used);
+uint64_t kp_device_write(struct kp_device *device, uint32_t address, uint32_t size,
+                         uint32_t value, uint8_t *journal, size_t journal_len, uint64_t used);
 
 /* Puts the standing requests (one bit for each channel) and the lines of the
  * three controllers; lines that the DMA drives stay as they are. Requesting
  * channels with their ERQ bit set then have work waiting. */
+uint64_t kp_device_inputs(struct kp_device *device, uint64_t standing, uint64_t lines0,
+                          uint64_t lines1, uint64_t lines2, uint8_t *journal, size_t journal_len,
+                          uint64_t used);
+
+/* Stores a pending count for one channel. */
+uint64_t kp_device_pending(struct kp_device *device, uint32_t channel, uint32_t count,
+                           uint8_t *journal, size_t journal_len, uint64_t used);
+
+/* Runs every channel with work waiting. Staging is all zero afterwards, but
+ * after refusals 5, 6 and 7, which leave it alone. */
+uint64_t kp_device_run(struct kp_device *device, uint64_t now, uint64_t pace, uint32_t base,
+                       uint8_t *window, size_t window_len, uint8_t *staging, size_t staging_len,
+                       uint8_t *journal, size_t journal_len, uint64_t used);
+
+/* Offers busy and deferred channels again, and runs. */
+uint64_t kp_device_service(struct kp_device *device, uint64_t now, uint64_t pace, uint32_t base,
+                           uint8_t *window, size_t window_len, uint8_t *staging,
+                           size_t staging_len, uint8_t *journal, size_t journal_len,
+                           uint64_t used);
+
+/* Takes the highest interrupt above `ipl` (its low byte counts); level 7 is
+ * never held back. An act even where nothing is found. */
+uint64_t kp_device_acknowledge(struct kp_device *device, uint32_t ipl, uint8_t *journal,
+                               size_t journal_len, uint64_t used);
+
+/* Undoes the last standing act: no act itself. Its group's bytes are zero
+ * afterwards, and the used length is that before the act. */
+uint64_t kp_device_take_back(struct kp_device *device, uint32_t base, uint8_t *window,
+                             size_t window_len, uint8_t *journal, size_t journal_len,
+                             uint64_t used);
+
+/* Lays the device down as an image; 255, and nothing is written, where
+ * image_len is not KP_IMAGE. */
+uint64_t kp_device_save(const struct kp_device *device, uint8_t *image, size_t image_len);
+
+/* Reads the device from an image; 255, and the device stays, where the bytes
+ * are none. */
+uint64_t kp_device_load(struct kp_device *device, const uint8_t *image, size_t image_len);
+
+/* ---- the same calls on an image: libentries.a. Each answers 255, and changes
+ * nothing, where the bytes are no image. */
+
+uint64_t kp_fresh(uint8_t *image, size_t image_len, uint32_t ignore_masks);
+
+uint64_t kp_read(const uint8_t *image, size_t image_len, uint32_t address, uint32_t size);
+
+uint64_t kp_write(uint8_t *image, size_t image_len, uint32_t address, uint32_t size,
+                  uint32_t value, uint8_t *journal, size_t journal_len, uint64_t used);
+
 uint64_t kp_inputs(uint8_t *image, size_t image_len, uint64_t standing, uint64_t lines0,
                    uint64_t lines1, uint64_t lines2, uint8_t *journal, size_t journal_len,
                    uint64_t used);
 
-/* Stores a pending count for one channel. */
 uint64_t kp_pending(uint8_t *image, size_t image_len, uint32_t channel, uint32_t count,
                     uint8_t *journal, size_t journal_len, uint64_t used);
 
-/* Runs every channel with work waiting. Staging is all zero afterwards, but
- * after refusals 5, 6, 7 and 255, which leave it alone. */
 uint64_t kp_run(uint8_t *image, size_t image_len, uint64_t now, uint64_t pace, uint32_t base,
                 uint8_t *window, size_t window_len, uint8_t *staging, size_t staging_len,
                 uint8_t *journal, size_t journal_len, uint64_t used);
 
-/* Offers busy and deferred channels again, and runs. */
 uint64_t kp_service(uint8_t *image, size_t image_len, uint64_t now, uint64_t pace, uint32_t base,
                     uint8_t *window, size_t window_len, uint8_t *staging, size_t staging_len,
                     uint8_t *journal, size_t journal_len, uint64_t used);
 
-/* Takes the highest interrupt above `ipl` (its low byte counts); level 7 is
- * never held back. An act even where nothing is found. */
 uint64_t kp_acknowledge(uint8_t *image, size_t image_len, uint32_t ipl, uint8_t *journal,
                         size_t journal_len, uint64_t used);
 
-/* Undoes the last standing act: no act itself. Its group's bytes are zero
- * afterwards, and the used length is that before the act. */
 uint64_t kp_take_back(uint8_t *image, size_t image_len, uint32_t base, uint8_t *window,
                       size_t window_len, uint8_t *journal, size_t journal_len, uint64_t used);
 

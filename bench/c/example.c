@@ -1,7 +1,8 @@
 /* The entries from C: sets a channel up by register writes, moves a block,
- * takes its interrupt, and takes everything back again.
+ * takes its interrupt, saves the device and loads it again, and takes
+ * everything back.
  *
- *   cc -I include bench/c/example.c target/staticlib/libentries.a -o example
+ *   cc -I include bench/c/example.c target/staticlib/libdirect.a -o example
  *
  * Prints what it does; its exit status is 0 if all went as document 01 says. */
 #include "kounpheray.h"
@@ -14,6 +15,7 @@
 #define BASE 0x80000000u
 #define BLOCK 160
 
+static struct kp_device device;
 static uint8_t image[KP_IMAGE];
 static uint8_t fresh[KP_IMAGE];
 static uint8_t window[512];
@@ -40,8 +42,7 @@ static uint64_t accept(const char *what, uint64_t answer)
 
 static void put(uint32_t address, uint32_t size, uint32_t value)
 {
-    accept("write", kp_write(image, sizeof image, address, size, value, journal, sizeof journal,
-                             used));
+    accept("write", kp_device_write(&device, address, size, value, journal, sizeof journal, used));
 }
 
 /* Channel 3: 160 bytes from the window's start to its second half, read in
@@ -71,37 +72,42 @@ int main(void)
     uint64_t answer, acts = 0;
     size_t n;
 
-    expect("fresh", kp_status(kp_fresh(image, sizeof image, 0)), KP_ACCEPTED);
-    memcpy(fresh, image, sizeof image);
+    expect("fresh", kp_status(kp_device_fresh(&device, 0)), KP_ACCEPTED);
+    expect("save", kp_status(kp_device_save(&device, fresh, sizeof fresh)), KP_ACCEPTED);
     for (n = 0; n < BLOCK; n++)
         window[n] = (uint8_t)(7 * n + 1);
 
     set_up();
-    accept("run", kp_run(image, sizeof image, 0, 0, BASE, window, sizeof window, staging,
-                         sizeof staging, journal, sizeof journal, used));
+    accept("run", kp_device_run(&device, 0, 0, BASE, window, sizeof window, staging,
+                                sizeof staging, journal, sizeof journal, used));
     expect("moved", (uint64_t)memcmp(window, window + 256, BLOCK), 0);
-    answer = kp_read(image, sizeof image, KP_DMA + 0x24, 4);
+    answer = kp_device_read(&device, KP_DMA + 0x24, 4);
     expect("read", kp_status(answer), KP_ACCEPTED);
     expect("INT", kp_low(answer), 1u << 3);
+    expect("the field", device.scalars.interrupts, 1u << 3);
     printf("moved %d bytes; %" PRIu64 " bytes of journal used\n", BLOCK, used);
 
     answer = accept("acknowledge",
-                    kp_acknowledge(image, sizeof image, 0, journal, sizeof journal, used));
+                    kp_device_acknowledge(&device, 0, journal, sizeof journal, used));
     expect("level", kp_level(answer), 5);
     expect("vector", kp_vector(answer), 64 + 8 + 3);
     printf("interrupt of level %u, vector %u\n", kp_level(answer), kp_vector(answer));
 
-    answer = kp_read(image, sizeof image, 0, 4);
+    answer = kp_device_read(&device, 0, 4);
     expect("a read beside all registers", kp_status(answer), KP_ADDRESS);
 
+    expect("save", kp_status(kp_device_save(&device, image, sizeof image)), KP_ACCEPTED);
+    expect("spoilt", kp_status(kp_device_fresh(&device, 1)), KP_ACCEPTED);
+    expect("load", kp_status(kp_device_load(&device, image, sizeof image)), KP_ACCEPTED);
     while (used != 0) {
-        accept("take back", kp_take_back(image, sizeof image, BASE, window, sizeof window, journal,
-                                         sizeof journal, used));
+        accept("take back", kp_device_take_back(&device, BASE, window, sizeof window, journal,
+                                                sizeof journal, used));
         acts++;
     }
-    answer = kp_take_back(image, sizeof image, BASE, window, sizeof window, journal,
-                          sizeof journal, used);
+    answer = kp_device_take_back(&device, BASE, window, sizeof window, journal, sizeof journal,
+                                 used);
     expect("nothing left", kp_status(answer), KP_NOTHING);
+    expect("save", kp_status(kp_device_save(&device, image, sizeof image)), KP_ACCEPTED);
     expect("fresh again", (uint64_t)memcmp(image, fresh, sizeof image), 0);
     for (n = 256; n < sizeof window; n++)
         expect("empty again", window[n], 0);

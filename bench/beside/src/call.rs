@@ -1,6 +1,6 @@
 //! The calls, and the refusals that can be told from the arguments alone.
 
-use kounpheray::entries::Time;
+use kounpheray::Time;
 
 /// A call of the engine with its arguments.
 #[derive(Clone, Copy, Debug, PartialEq, Eq)]

@@ -3,8 +3,7 @@
 use crate::call::Call;
 use crate::compare::Beside;
 use crate::world::World;
-use kounpheray::entries::Time;
-use kounpheray::{Channel, Device, Field, Tcd};
+use kounpheray::{Channel, Device, Field, Tcd, Time};
 use oracle::Oracle;
 
 /// Where the window begins if a case does not say.
@@ -29,7 +28,7 @@ impl Default for Lab {
 impl Lab {
     pub fn new() -> Lab {
         let world = World {
-            image: Device::fresh().image().to_vec(),
+            image: Device::fresh().image(),
             base: BASE,
             window: memory(LEN),
             staging: vec![0xA5; 128],
@@ -45,7 +44,9 @@ impl Lab {
     }
 
     pub fn begin_in(&mut self, device: &Device, base: u32, window: &[u8]) {
-        self.pair.again(device.image(), base, window).expect("the case lies in the claimed domain");
+        self.pair
+            .again(&device.image(), base, window)
+            .expect("the case lies in the claimed domain");
     }
 
     /// Makes a call on both sides.
@@ -89,7 +90,7 @@ pub fn put(device: &mut Device, field: Field, value: u64) {
 
 /// The device with lines and level worked out, as most cases need it at entry.
 pub fn settled(device: &Device) -> Device {
-    let mut image = device.image().to_vec();
+    let mut image = device.image();
     Oracle::settle(&mut image);
     Device::from_image(&image).expect("it was a device before")
 }

@@ -5,8 +5,7 @@
 use crate::call::Call;
 use crate::difference;
 use crate::world::World;
-use kounpheray::entries::Time;
-use kounpheray::{Device, Field, IMAGE};
+use kounpheray::{Device, Field, Time, IMAGE};
 use std::ops::Range;
 
 pub const FORMAT: &str = "\
@@ -304,7 +303,7 @@ impl Player {
         self.case = begin.number;
         self.cases += 1;
         self.is.fill(0);
-        self.is[..IMAGE].copy_from_slice(begin.device().image());
+        self.is[..IMAGE].copy_from_slice(&begin.device().image());
         self.is[WINDOW_AT..STAGING_AT].copy_from_slice(&begin.room());
         self.is[STAGING_AT..USED_AT].fill(begin.filled);
         let numbers = [JOURNAL as u64, STAGING as u64, begin.length.into(), begin.base.into()];

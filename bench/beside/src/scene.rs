@@ -5,8 +5,7 @@
 use crate::call::Call;
 use crate::random::Random;
 use crate::world::World;
-use kounpheray::entries::Time;
-use kounpheray::{csr, Channel, Controller, Device, Field, Source, Tcd, TcdField, TCD};
+use kounpheray::{csr, Channel, Controller, Device, Field, Source, Tcd, TcdField, Time, TCD};
 
 /// A device, its memory, and which channels have descriptors.
 #[derive(Clone, Debug)]
@@ -105,7 +104,7 @@ impl Scene {
     /// are not all zero.
     pub fn world(&self, random: &mut Random, staging: usize, journal: usize) -> World {
         let mut world = World {
-            image: self.device.image().to_vec(),
+            image: self.device.image(),
             base: self.base,
             window: self.window.clone(),
             staging: vec![0; staging],

@@ -3,6 +3,63 @@
 
 use crate::call::Call;
 use kounpheray::entries::{self, Answer, Lent, LentJournal};
+use kounpheray::Device;
+
+/// Makes a call through one of the two families of entries, which have the
+/// same names, and keeps the used length it answers.
+macro_rules! made {
+    ($world:ident, $entries:ident, $device:expr, $call:ident) => {{
+        let memory = Lent { base: $world.base, window: &mut $world.window };
+        let journal = LentJournal { bytes: &mut $world.journal, used: $world.used };
+        let staging = &mut $world.staging;
+        let answer = match $call {
+            Call::Read { address, size } => return $entries::read($device, address, size),
+            Call::Write { address, size, value } => {
+                $entries::write($device, address, size, value, journal)
+            }
+            Call::Inputs { standing, lines } => $entries::inputs($device, standing, lines, journal),
+            Call::Pending { channel, count } => $entries::pending($device, channel, count, journal),
+            Call::Run(time) => $entries::run($device, time, memory, staging, journal),
+            Call::Service(time) => $entries::service($device, time, memory, staging, journal),
+            Call::Acknowledge { ipl } => $entries::acknowledge($device, ipl, journal),
+            Call::TakeBack => $entries::take_back($device, memory, journal),
+        };
+        if answer.status() == 0 {
+            $world.used = u64::from(answer.low());
+        }
+        answer
+    }};
+}
+
+/// The same world as a [`World`], with its device in memory.
+#[derive(Clone, Debug)]
+pub struct InMemory {
+    pub device: Device,
+    pub base: u32,
+    pub window: Vec<u8>,
+    pub staging: Vec<u8>,
+    pub journal: Vec<u8>,
+    pub used: u64,
+}
+
+impl InMemory {
+    /// Makes a call and keeps the used length it answers.
+    pub fn call(&mut self, call: Call) -> Answer {
+        made!(self, entries, &mut self.device, call)
+    }
+
+    /// The world with its device laid down as an image.
+    pub fn laid_down(&self) -> World {
+        World {
+            image: self.device.image(),
+            base: self.base,
+            window: self.window.clone(),
+            staging: self.staging.clone(),
+            journal: self.journal.clone(),
+            used: self.used,
+        }
+    }
+}
 
 /// Device image, memory, staging and journal.
 #[derive(Clone, Debug, PartialEq, Eq)]
@@ -18,27 +75,19 @@ pub struct World {
 impl World {
     /// Makes a call and keeps the used length it answers.
     pub fn call(&mut self, call: Call) -> Answer {
-        let memory = Lent { base: self.base, window: &mut self.window };
-        let journal = LentJournal { bytes: &mut self.journal, used: self.used };
-        let image = &mut self.image;
-        let answer = match call {
-            Call::Read { address, size } => return entries::read(image, address, size),
-            Call::Write { address, size, value } => {
-                entries::write(image, address, size, value, journal)
-            }
-            Call::Inputs { standing, lines } => entries::inputs(image, standing, lines, journal),
-            Call::Pending { channel, count } => entries::pending(image, channel, count, journal),
-            Call::Run(time) => entries::run(image, time, memory, &mut self.staging, journal),
-            Call::Service(time) => {
-                entries::service(image, time, memory, &mut self.staging, journal)
-            }
-            Call::Acknowledge { ipl } => entries::acknowledge(image, ipl, journal),
-            Call::TakeBack => entries::take_back(image, memory, journal),
-        };
-        if answer.status() == 0 {
-            self.used = u64::from(answer.low());
+        made!(self, images, &mut self.image, call)
+    }
+
+    /// The same memory, staging and journal around a device in memory.
+    pub fn around(&self, device: Device) -> InMemory {
+        InMemory {
+            device,
+            base: self.base,
+            window: self.window.clone(),
+            staging: self.staging.clone(),
+            journal: self.journal.clone(),
+            used: self.used,
         }
-        answer
     }
 
     /// Makes a call and holds everything it was lent to document 01's words

@@ -9,10 +9,11 @@ fn root() -> PathBuf {
 }
 
 fn archive() -> PathBuf {
-    match env::var_os("KOUNPHERAY_ARCHIVE") {
+    let folder = match env::var_os("KOUNPHERAY_ARCHIVES") {
         Some(named) => PathBuf::from(named),
-        None => root().join("target/staticlib/libentries.a"),
-    }
+        None => root().join("target/staticlib"),
+    };
+    folder.join("libdirect.a")
 }
 
 /// Runs a command and answers what it wrote.

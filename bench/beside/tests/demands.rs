@@ -151,7 +151,7 @@ fn every_shorter_staging() {
                 let read = nbytes.div_ceil(from.bytes()) * from.bytes();
                 for length in 0..read + 2 {
                     let mut world = World {
-                        image: one_request(Channel::new(8), &tcd).image().to_vec(),
+                        image: one_request(Channel::new(8), &tcd).image(),
                         base: BASE,
                         window: memory(256),
                         staging: vec![0xEE; length as usize],
@@ -178,7 +178,7 @@ fn the_first_step_decides() {
     let status = |attr: u16, saddr: u32, daddr: u32, staging: usize, journal: usize| {
         let tcd = Tcd { saddr, attr, nbytes: 4, daddr, citer: 1, biter: 1, ..Tcd::default() };
         let mut world = World {
-            image: one_request(Channel::new(8), &tcd).image().to_vec(),
+            image: one_request(Channel::new(8), &tcd).image(),
             base: BASE,
             window: memory(32),
             staging: vec![1; staging],
@@ -205,9 +205,9 @@ fn early_refusals() {
     let mut random = Random::new(5);
     let scene = Scene::new(&mut random);
     let sound = scene.world(&mut random, 16, 1 << 12);
-    let over = kounpheray::entries::Time { now: (1 << 62) + 1, pace: 0 };
-    let pace = kounpheray::entries::Time { now: 0, pace: 1_000_001 };
-    let good = kounpheray::entries::Time { now: 1 << 62, pace: 1_000_000 };
+    let over = kounpheray::Time { now: (1 << 62) + 1, pace: 0 };
+    let pace = kounpheray::Time { now: 0, pace: 1_000_001 };
+    let good = kounpheray::Time { now: 1 << 62, pace: 1_000_000 };
     let mut seen = 0;
     for (base, length) in [(0, 0), (0, 1), (u32::MAX, 1), (u32::MAX, 2), (1, (1 << 24) + 1)] {
         for used in [0, 8, 16, 4096, 4112, 1 << 32, u64::MAX - 15] {
@@ -253,7 +253,7 @@ fn longest_window_and_journal() {
     use beside::lab::AT_ONCE;
     let device = kounpheray::Device::fresh();
     let world = |window: usize, journal: usize| World {
-        image: device.image().to_vec(),
+        image: device.image(),
         base: ((1u64 << 32) - (1 << 24)) as u32,
         window: vec![0; window],
         staging: Vec::new(),
@@ -444,7 +444,7 @@ fn images_that_are_no_device() {
             Some(_) => {}
         }
     }
-    let unsound_time = kounpheray::entries::Time { now: u64::MAX, pace: u64::MAX };
+    let unsound_time = kounpheray::Time { now: u64::MAX, pace: u64::MAX };
     for image in bad {
         for call in [
             Call::Read { address: 0, size: 0 },
@@ -462,6 +462,6 @@ fn images_that_are_no_device() {
         }
     }
     let mut short = vec![1; 8719];
-    assert_eq!(kounpheray::entries::fresh(&mut short, false).status(), 255);
+    assert_eq!(images::fresh(&mut short, false).status(), 255);
     assert!(short.iter().all(|&byte| byte == 1), "a refused image is unchanged");
 }

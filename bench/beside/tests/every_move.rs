@@ -4,8 +4,7 @@
 use beside::call::Call;
 use beside::lab::{memory, one_request, put, Lab, AT_ONCE, BASE, LEN};
 use beside::oracle_at_hand;
-use kounpheray::entries::Time;
-use kounpheray::{csr, Channel, Device, Field, Tcd, CR_EMLM};
+use kounpheray::{csr, Channel, Device, Field, Tcd, Time, CR_EMLM};
 
 const CHANNEL: Channel = Channel::new(5);
 const OTHER: Channel = Channel::new(41);

@@ -12,7 +12,7 @@ const BLOCKS: [u32; 4] = [0xFC04_4000, 0xFC04_8000, 0xFC04_C000, 0xFC05_0000];
 /// stay where equality is claimed.
 fn rich(seed: u64) -> Device {
     let mut random = Random::new(seed);
-    let mut image = Device::fresh().image().to_vec();
+    let mut image = Device::fresh().image();
     random.fill(&mut image[..2048]);
     let mut device = Device::from_image(&image).expect("any table will do");
     for number in 0..768 {

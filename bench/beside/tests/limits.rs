@@ -27,7 +27,7 @@ fn run(what: &str, device: &Device) -> Option<Device> {
         return None;
     }
     let mut world = World {
-        image: device.image().to_vec(),
+        image: device.image(),
         base: BASE,
         window: memory(96),
         staging: vec![1; 1 << 22],

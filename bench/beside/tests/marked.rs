@@ -1,9 +1,9 @@
 //! Document 01's marked examples and its listing, through the entries.
 
 use beside::lab::{one_request, put, AT_ONCE, BASE};
-use kounpheray::entries::Time;
 use kounpheray::{
-    csr, Bench, Channel, Controller, Device, Field, Record, Refusal, Size, Source, Tcd, CR_EMLM,
+    csr, Bench, Channel, Controller, Device, Field, Record, Refusal, Size, Source, Tcd, Time,
+    CR_EMLM,
 };
 
 const CHANNEL: Channel = Channel::new(0);

@@ -3,9 +3,10 @@
 use crate::answer::{Answer, Taken};
 use crate::channel::Channel;
 use crate::descriptor::{Tcd, TcdField};
-use crate::ffi::{self, Lent, LentJournal, Time};
-use crate::image::{descriptor_in, Device};
+use crate::device::{descriptor_in, Device};
+use crate::ffi;
 use crate::journal::{Journal, Record, Stored};
+use crate::lent::{Lent, LentJournal, Time};
 use crate::refusal::Refusal;
 use crate::register::Register;
 
@@ -208,7 +209,7 @@ impl Bench {
 
     /// Reads a register as a guest does, by address and size.
     pub fn read_at(&self, address: u32, size: u32) -> Result<u32, Refusal> {
-        ffi::read(self.device.image(), address, size).accepted()
+        ffi::read(&self.device, address, size).accepted()
     }
 
     /// Writes a register by name.
@@ -220,7 +221,7 @@ impl Bench {
     /// Writes a register as a guest does, by address and size.
     pub fn write_at(&mut self, address: u32, size: u32, value: u32) -> Result<(), Refusal> {
         let journal = LentJournal { bytes: &mut self.journal, used: self.used as u64 };
-        let answer = ffi::write(&mut self.device.image, address, size, value, journal);
+        let answer = ffi::write(&mut self.device, address, size, value, journal);
         self.stands(answer, Act::Write { address, size, value })
     }
 
@@ -248,7 +249,7 @@ impl Bench {
     /// with its ERQ bit set then has work waiting.
     pub fn inputs(&mut self, standing: u64, lines: [u64; 3]) -> Result<(), Refusal> {
         let journal = LentJournal { bytes: &mut self.journal, used: self.used as u64 };
-        let answer = ffi::inputs(&mut self.device.image, standing, lines, journal);
+        let answer = ffi::inputs(&mut self.device, standing, lines, journal);
         self.stands(answer, Act::Inputs { standing, lines })
     }
 
@@ -256,7 +257,7 @@ impl Bench {
     pub fn pending(&mut self, channel: Channel, count: u32) -> Result<(), Refusal> {
         let journal = LentJournal { bytes: &mut self.journal, used: self.used as u64 };
         let number = u32::from(channel.number());
-        let answer = ffi::pending(&mut self.device.image, number, count, journal);
+        let answer = ffi::pending(&mut self.device, number, count, journal);
         self.stands(answer, Act::Pending { channel, count })
     }
 
@@ -264,7 +265,7 @@ impl Bench {
     pub fn run(&mut self, time: Time) -> Result<(), Refusal> {
         let memory = Lent { base: self.base, window: &mut self.window };
         let journal = LentJournal { bytes: &mut self.journal, used: self.used as u64 };
-        let answer = ffi::run(&mut self.device.image, time, memory, &mut self.staging, journal);
+        let answer = ffi::run(&mut self.device, time, memory, &mut self.staging, journal);
         self.stands(answer, Act::Run(time))
     }
 
@@ -272,7 +273,7 @@ impl Bench {
     pub fn service(&mut self, time: Time) -> Result<(), Refusal> {
         let memory = Lent { base: self.base, window: &mut self.window };
         let journal = LentJournal { bytes: &mut self.journal, used: self.used as u64 };
-        let answer = ffi::service(&mut self.device.image, time, memory, &mut self.staging, journal);
+        let answer = ffi::service(&mut self.device, time, memory, &mut self.staging, journal);
         self.stands(answer, Act::Service(time))
     }
 
@@ -280,7 +281,7 @@ impl Bench {
     /// never held back. An act even where nothing is found.
     pub fn acknowledge(&mut self, ipl: u8) -> Result<Option<Taken>, Refusal> {
         let journal = LentJournal { bytes: &mut self.journal, used: self.used as u64 };
-        let answer = ffi::acknowledge(&mut self.device.image, ipl, journal);
+        let answer = ffi::acknowledge(&mut self.device, ipl, journal);
         self.stands(answer, Act::Acknowledge { ipl })?;
         Ok(answer.taken())
     }
@@ -289,7 +290,7 @@ impl Bench {
     pub fn step_back(&mut self) -> Result<Act, Refusal> {
         let memory = Lent { base: self.base, window: &mut self.window };
         let journal = LentJournal { bytes: &mut self.journal, used: self.used as u64 };
-        let answer = ffi::take_back(&mut self.device.image, memory, journal);
+        let answer = ffi::take_back(&mut self.device, memory, journal);
         self.used = answer.accepted()? as usize;
         self.acts.pop().ok_or(Refusal::NothingToTakeBack)
     }

@@ -40,6 +40,11 @@ impl Channel {
         self.0
     }
 
+    /// The number as a place in an array.
+    pub(crate) const fn index(self) -> usize {
+        self.0 as usize
+    }
+
     /// The channel's bit in ERQ, KICK, INT and the like.
     pub const fn bit(self) -> u64 {
         1 << self.0
@@ -76,6 +81,11 @@ impl Controller {
     pub const fn number(self) -> u8 {
         self as u8
     }
+
+    /// The number as a place in an array.
+    pub(crate) const fn index(self) -> usize {
+        self as usize
+    }
 }
 
 /// An interrupt source of one controller: 0 to 63.
@@ -95,5 +105,10 @@ impl Source {
     /// The source's number.
     pub const fn number(self) -> u8 {
         self.0
+    }
+
+    /// The number as a place in an array.
+    pub(crate) const fn index(self) -> usize {
+        self.0 as usize
     }
 }

@@ -1,23 +1,29 @@
-//! The C entries (docs/ABI.md) as safe functions over slices. The only module
-//! of this crate with `unsafe` in it.
+//! The entries over a device in memory (docs/ABI.md) as safe functions. The
+//! only module of this crate with `unsafe` in it.
 //!
-//! Why each call is sound. The entries are total: for any slices and numbers
-//! they read and write nothing but the slices lent, and return. A Rust slice
-//! is a pointer that is never null, also where it is empty, to that many
-//! initialised bytes; `&mut` slices that live at the same time do not overlap,
-//! and nobody else looks at them during the call. The entries keep no pointer
-//! after they return and never unwind. So whatever is passed here meets what
-//! the entries ask for, and each function below is safe.
+//! Why each call is sound. The entries are total: for any device, slices and
+//! numbers they read and write nothing but what they are lent, and return. A
+//! [`Device`] holds a struct of the layout that the archive has (module `raw`
+//! asserts it), aligned and initialised, in which the one byte that is not free
+//! is a `bool`. A Rust slice is a pointer that is never null, also where it is
+//! empty, to that many initialised bytes; what is borrowed mutably at the same
+//! time does not overlap, and nobody else looks at it during the call. The
+//! entries keep no pointer after they return and never unwind. So whatever is
+//! passed here meets what the entries ask for, and each function below is safe.
 #![allow(unsafe_code)]
 
 use crate::answer::Answer;
+use crate::device::Device;
+use crate::lent::{Lent, LentJournal, Time};
+use crate::raw::RawDevice;
 
+// `bool` and nested structs with declared layout pass behind a pointer as C has
+// them.
 extern "C" {
-    fn kp_fresh(image: *mut u8, image_len: usize, ignore_masks: u32) -> u64;
-    fn kp_read(image: *const u8, image_len: usize, address: u32, size: u32) -> u64;
-    fn kp_write(
-        image: *mut u8,
-        image_len: usize,
+    fn kp_device_fresh(device: *mut RawDevice, ignore_masks: u32) -> u64;
+    fn kp_device_read(device: *const RawDevice, address: u32, size: u32) -> u64;
+    fn kp_device_write(
+        device: *mut RawDevice,
         address: u32,
         size: u32,
         value: u32,
@@ -25,9 +31,8 @@ extern "C" {
         journal_len: usize,
         used: u64,
     ) -> u64;
-    fn kp_inputs(
-        image: *mut u8,
-        image_len: usize,
+    fn kp_device_inputs(
+        device: *mut RawDevice,
         standing: u64,
         lines0: u64,
         lines1: u64,
@@ -36,18 +41,16 @@ extern "C" {
         journal_len: usize,
         used: u64,
     ) -> u64;
-    fn kp_pending(
-        image: *mut u8,
-        image_len: usize,
+    fn kp_device_pending(
+        device: *mut RawDevice,
         channel: u32,
         count: u32,
         journal: *mut u8,
         journal_len: usize,
         used: u64,
     ) -> u64;
-    fn kp_run(
-        image: *mut u8,
-        image_len: usize,
+    fn kp_device_run(
+        device: *mut RawDevice,
         now: u64,
         pace: u64,
         base: u32,
@@ -59,9 +62,8 @@ extern "C" {
         journal_len: usize,
         used: u64,
     ) -> u64;
-    fn kp_service(
-        image: *mut u8,
-        image_len: usize,
+    fn kp_device_service(
+        device: *mut RawDevice,
         now: u64,
         pace: u64,
         base: u32,
@@ -73,17 +75,15 @@ extern "C" {
         journal_len: usize,
         used: u64,
     ) -> u64;
-    fn kp_acknowledge(
-        image: *mut u8,
-        image_len: usize,
+    fn kp_device_acknowledge(
+        device: *mut RawDevice,
         ipl: u32,
         journal: *mut u8,
         journal_len: usize,
         used: u64,
     ) -> u64;
-    fn kp_take_back(
-        image: *mut u8,
-        image_len: usize,
+    fn kp_device_take_back(
+        device: *mut RawDevice,
         base: u32,
         window: *mut u8,
         window_len: usize,
@@ -91,65 +91,25 @@ extern "C" {
         journal_len: usize,
         used: u64,
     ) -> u64;
-    #[cfg(speed_entry)]
-    fn kp_speed_run(
-        image: *mut u8,
-        image_len: usize,
-        runs: u64,
-        now: u64,
-        pace: u64,
-        base: u32,
-        window: *mut u8,
-        window_len: usize,
-        staging: *mut u8,
-        staging_len: usize,
-        journal: *mut u8,
-        journal_len: usize,
-    ) -> u64;
+    fn kp_device_save(device: *const RawDevice, image: *mut u8, image_len: usize) -> u64;
+    fn kp_device_load(device: *mut RawDevice, image: *const u8, image_len: usize) -> u64;
 }
 
-/// A memory lent to one call: its first address and its bytes.
-#[derive(Debug)]
-pub struct Lent<'a> {
-    /// The address of the window's first byte.
-    pub base: u32,
-    /// The window's bytes.
-    pub window: &'a mut [u8],
-}
-
-/// The journal lent to one call, and how much of it is used.
-#[derive(Debug)]
-pub struct LentJournal<'a> {
-    /// The whole journal.
-    pub bytes: &'a mut [u8],
-    /// The used length at entry.
-    pub used: u64,
-}
-
-/// The time of a run or a service.
-#[derive(Clone, Copy, Debug, PartialEq, Eq)]
-pub struct Time {
-    /// The present, in the caller's unit; at most 2^62.
-    pub now: u64,
-    /// How long channel 35 takes for one byte, in that unit; at most 1,000,000.
-    pub pace: u64,
-}
-
-/// Makes a fresh device in the image.
-pub fn fresh(image: &mut [u8], ignore_masks: bool) -> Answer {
+/// Makes the device a fresh one.
+pub fn fresh(device: &mut Device, ignore_masks: bool) -> Answer {
     // SAFETY: as the module says.
-    Answer(unsafe { kp_fresh(image.as_mut_ptr(), image.len(), u32::from(ignore_masks)) })
+    Answer(unsafe { kp_device_fresh(&mut *device.raw, u32::from(ignore_masks)) })
 }
 
 /// Reads a register.
-pub fn read(image: &[u8], address: u32, size: u32) -> Answer {
+pub fn read(device: &Device, address: u32, size: u32) -> Answer {
     // SAFETY: as the module says; this entry writes nothing.
-    Answer(unsafe { kp_read(image.as_ptr(), image.len(), address, size) })
+    Answer(unsafe { kp_device_read(&*device.raw, address, size) })
 }
 
 /// Writes a register.
 pub fn write(
-    image: &mut [u8],
+    device: &mut Device,
     address: u32,
     size: u32,
     value: u32,
@@ -158,9 +118,8 @@ pub fn write(
     let LentJournal { bytes, used } = journal;
     // SAFETY: as the module says.
     Answer(unsafe {
-        kp_write(
-            image.as_mut_ptr(),
-            image.len(),
+        kp_device_write(
+            &mut *device.raw,
             address,
             size,
             value,
@@ -173,7 +132,7 @@ pub fn write(
 
 /// Puts the standing requests and the three controllers' lines.
 pub fn inputs(
-    image: &mut [u8],
+    device: &mut Device,
     standing: u64,
     lines: [u64; 3],
     journal: LentJournal<'_>,
@@ -181,9 +140,8 @@ pub fn inputs(
     let LentJournal { bytes, used } = journal;
     // SAFETY: as the module says.
     Answer(unsafe {
-        kp_inputs(
-            image.as_mut_ptr(),
-            image.len(),
+        kp_device_inputs(
+            &mut *device.raw,
             standing,
             lines[0],
             lines[1],
@@ -196,48 +154,39 @@ pub fn inputs(
 }
 
 /// Stores a pending count for one channel.
-pub fn pending(image: &mut [u8], channel: u32, count: u32, journal: LentJournal<'_>) -> Answer {
+pub fn pending(device: &mut Device, channel: u32, count: u32, journal: LentJournal<'_>) -> Answer {
     let LentJournal { bytes, used } = journal;
     // SAFETY: as the module says.
     Answer(unsafe {
-        kp_pending(
-            image.as_mut_ptr(),
-            image.len(),
-            channel,
-            count,
-            bytes.as_mut_ptr(),
-            bytes.len(),
-            used,
-        )
+        kp_device_pending(&mut *device.raw, channel, count, bytes.as_mut_ptr(), bytes.len(), used)
     })
 }
 
 /// Runs every channel with work waiting.
 pub fn run(
-    image: &mut [u8],
+    device: &mut Device,
     time: Time,
     memory: Lent<'_>,
     staging: &mut [u8],
     journal: LentJournal<'_>,
 ) -> Answer {
-    timed(kp_run, image, time, memory, staging, journal)
+    timed(kp_device_run, device, time, memory, staging, journal)
 }
 
 /// Offers busy and deferred channels again, and runs.
 pub fn service(
-    image: &mut [u8],
+    device: &mut Device,
     time: Time,
     memory: Lent<'_>,
     staging: &mut [u8],
     journal: LentJournal<'_>,
 ) -> Answer {
-    timed(kp_service, image, time, memory, staging, journal)
+    timed(kp_device_service, device, time, memory, staging, journal)
 }
 
-/// What `kp_run` and `kp_service` are given.
+/// What `kp_device_run` and `kp_device_service` are given.
 type Timed = unsafe extern "C" fn(
-    *mut u8,
-    usize,
+    *mut RawDevice,
     u64,
     u64,
     u32,
@@ -253,7 +202,7 @@ type Timed = unsafe extern "C" fn(
 /// One of the two entries that move samples.
 fn timed(
     entry: Timed,
-    image: &mut [u8],
+    device: &mut Device,
     time: Time,
     memory: Lent<'_>,
     staging: &mut [u8],
@@ -264,8 +213,7 @@ fn timed(
     // SAFETY: as the module says, of either entry.
     Answer(unsafe {
         entry(
-            image.as_mut_ptr(),
-            image.len(),
+            &mut *device.raw,
             time.now,
             time.pace,
             base,
@@ -281,13 +229,12 @@ fn timed(
 }
 
 /// Takes the interrupt that stands highest.
-pub fn acknowledge(image: &mut [u8], ipl: u8, journal: LentJournal<'_>) -> Answer {
+pub fn acknowledge(device: &mut Device, ipl: u8, journal: LentJournal<'_>) -> Answer {
     let LentJournal { bytes, used } = journal;
     // SAFETY: as the module says.
     Answer(unsafe {
-        kp_acknowledge(
-            image.as_mut_ptr(),
-            image.len(),
+        kp_device_acknowledge(
+            &mut *device.raw,
             u32::from(ipl),
             bytes.as_mut_ptr(),
             bytes.len(),
@@ -297,14 +244,13 @@ pub fn acknowledge(image: &mut [u8], ipl: u8, journal: LentJournal<'_>) -> Answe
 }
 
 /// Undoes the last standing act.
-pub fn take_back(image: &mut [u8], memory: Lent<'_>, journal: LentJournal<'_>) -> Answer {
+pub fn take_back(device: &mut Device, memory: Lent<'_>, journal: LentJournal<'_>) -> Answer {
     let Lent { base, window } = memory;
     let LentJournal { bytes, used } = journal;
     // SAFETY: as the module says.
     Answer(unsafe {
-        kp_take_back(
-            image.as_mut_ptr(),
-            image.len(),
+        kp_device_take_back(
+            &mut *device.raw,
             base,
             window.as_mut_ptr(),
             window.len(),
@@ -315,46 +261,14 @@ pub fn take_back(image: &mut [u8], memory: Lent<'_>, journal: LentJournal<'_>) -
     })
 }
 
-/// Makes `runs` runs inside one call, each from the device of the image and
-/// an empty journal; none where the archive has no such entry.
-#[cfg(speed_entry)]
-pub fn speed_run(
-    image: &mut [u8],
-    runs: u64,
-    time: Time,
-    memory: Lent<'_>,
-    staging: &mut [u8],
-    journal: &mut [u8],
-) -> Option<Answer> {
-    let Lent { base, window } = memory;
-    // SAFETY: as the module says.
-    Some(Answer(unsafe {
-        kp_speed_run(
-            image.as_mut_ptr(),
-            image.len(),
-            runs,
-            time.now,
-            time.pace,
-            base,
-            window.as_mut_ptr(),
-            window.len(),
-            staging.as_mut_ptr(),
-            staging.len(),
-            journal.as_mut_ptr(),
-            journal.len(),
-        )
-    }))
+/// Lays the device down as an image.
+pub fn save(device: &Device, image: &mut [u8]) -> Answer {
+    // SAFETY: as the module says; this entry writes the image alone.
+    Answer(unsafe { kp_device_save(&*device.raw, image.as_mut_ptr(), image.len()) })
 }
 
-/// None: the archive that this was built with has no such entry.
-#[cfg(not(speed_entry))]
-pub fn speed_run(
-    _image: &mut [u8],
-    _runs: u64,
-    _time: Time,
-    _memory: Lent<'_>,
-    _staging: &mut [u8],
-    _journal: &mut [u8],
-) -> Option<Answer> {
-    None
+/// Reads the device from an image, if it is one.
+pub fn load(device: &mut Device, image: &[u8]) -> Answer {
+    // SAFETY: as the module says; this entry writes the device alone.
+    Answer(unsafe { kp_device_load(&mut *device.raw, image.as_ptr(), image.len()) })
 }

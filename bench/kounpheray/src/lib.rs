@@ -45,31 +45,33 @@ mod answer;
 mod bench;
 mod channel;
 mod descriptor;
+mod device;
 mod ffi;
 mod field;
-mod image;
 mod journal;
+mod lent;
+mod raw;
 mod refusal;
 mod register;
 
 pub mod entries {
-    //! The C entries as they are, over bytes that the caller owns: for tests,
-    //! and for callers who keep images, windows and journals of their own.
+    //! The C entries as they are, over a device, a window and a journal that
+    //! the caller owns: for tests, and for callers who keep these apart.
     //! [`crate::Bench`] is what others want.
     pub use crate::answer::Answer;
     pub use crate::ffi::{
-        acknowledge, fresh, inputs, pending, read, run, service, speed_run, take_back, write, Lent,
-        LentJournal, Time,
+        acknowledge, fresh, inputs, load, pending, read, run, save, service, take_back, write,
     };
+    pub use crate::lent::{Lent, LentJournal};
 }
 
 pub use answer::Taken;
 pub use bench::{Act, Bench, Origin};
 pub use channel::{Channel, Controller, Source};
 pub use descriptor::{csr, Count, Size, Tcd, TcdField, TCD};
-pub use ffi::Time;
+pub use device::{Device, TooWide, IMAGE};
 pub use field::Field;
-pub use image::{Device, TooWide, IMAGE};
 pub use journal::{Group, Journal, MemoryStore, NotAJournal, Record, Stored, TableStore, RECORD};
+pub use lent::Time;
 pub use refusal::Refusal;
 pub use register::{ControllerRegister, DmaRegister, Register, Select, CR_EMLM};

@@ -1,164 +1,123 @@
-//! Measures runs of 160-byte blocks on the engine, beside the Rust over its
-//! flat memory on the same computer.
+//! Measures each call through the crate, beside the same call of the Rust over
+//! its flat memory, on this computer: processor time, the two sides in turns.
 //!
 //! cargo run --release -p speed
-//! cargo run --release -p speed -- engine 4 2 1000    (or rust)
+//! cargo run --release -p speed -- calls                  their names
+//! cargo run --release -p speed -- engine 'read CR' 1000  (or rust)
 //!
-//! The second form makes so many runs of one shape on one side and tells
-//! nothing: for counting instructions (`bench/instructions`).
+//! The last form makes one call so many times on one side and tells nothing:
+//! for counting instructions (`bench/instructions`).
 //!
-//! Build this package by itself, as that line does: together with the tests
+//! Build this package by itself, as those lines do: together with the tests
 //! the Rust would be built to be watched, which slows it down.
 
+mod call;
+mod clock;
 mod computer;
 
-use kounpheray::entries::{self, Lent, Time};
-use kounpheray::{csr, Channel, Device, Field, Size, Tcd};
-use oracle::Oracle;
+use call::{Call, Engine, Rust};
 use std::process::exit;
-use std::time::{Duration, Instant};
 
-const BASE: u32 = 0x8000_0000;
-const BLOCK: u32 = 160;
-const CHANNEL: Channel = Channel::new(5);
-const AT_ONCE: Time = Time { now: 0, pace: 0 };
+/// How often a side takes its turn, and how long a turn is to take.
+const TURNS: usize = 31;
+const TURN: u64 = 2_000_000;
 
-/// Runs in one measurement, and how many measurements the best is taken of.
-const RUNS: u64 = 10_000;
-const TRIES: usize = 15;
-
-const SHAPES: [(Size, Size); 5] = [
-    (Size::Four, Size::Four),
-    (Size::One, Size::One),
-    (Size::Four, Size::Two),
-    (Size::One, Size::Four),
-    (Size::Sixteen, Size::Sixteen),
-];
-
-/// A started move of one block.
-fn device(from: Size, to: Size) -> Device {
-    let mut device = Device::fresh();
-    device.set_descriptor(
-        CHANNEL,
-        &Tcd {
-            saddr: BASE,
-            attr: Tcd::attr(from, 0, to, 0),
-            soff: from.bytes() as i16,
-            nbytes: BLOCK,
-            daddr: BASE + 512,
-            citer: 1,
-            doff: to.bytes() as i16,
-            biter: 1,
-            csr: csr::START,
-            ..Tcd::default()
-        },
-    );
-    device.set(Field::Kick, CHANNEL.bit()).expect("KICK has 64 bits");
-    device
+/// Nanoseconds of one call: of so many turns the median, and the quarters.
+struct Figure {
+    low: f64,
+    median: f64,
+    high: f64,
 }
 
-fn window() -> Vec<u8> {
-    (0..1024).map(|at| (at * 7 + 3) as u8).collect()
-}
-
-/// What was seen: the best time of each side, and whether staging was cleared.
-struct Seen {
-    engine: Duration,
-    /// None where there are no Rust sources.
-    rust: Option<Duration>,
-    cleared: bool,
-}
-
-/// None where the archive has no entry for measurements. The two sides take
-/// turns, so that whatever else the computer does falls on both.
-fn measured(start: &Device) -> Option<Seen> {
-    let (engine, cleared) = engine(start, RUNS)?;
-    let mut seen = Seen { engine, rust: rust(start, RUNS), cleared };
-    for _ in 1..TRIES {
-        let (engine, cleared) = self::engine(start, RUNS)?;
-        seen.engine = seen.engine.min(engine);
-        seen.cleared &= cleared;
-        seen.rust = seen.rust.min(rust(start, RUNS));
+impl Figure {
+    fn of(mut turns: Vec<f64>) -> Figure {
+        turns.sort_by(f64::total_cmp);
+        let at = |part: usize| turns[(turns.len() - 1) * part / 4];
+        Figure { low: at(1), median: at(2), high: at(3) }
     }
-    Some(seen)
+
+    fn shown(&self) -> String {
+        format!("{:8.1} ({:.1} to {:.1})", self.median, self.low, self.high)
+    }
 }
 
-/// The engine's time, and whether it cleared staging.
-fn engine(start: &Device, runs: u64) -> Option<(Duration, bool)> {
-    let mut image = start.image().to_vec();
-    let mut window = window();
-    let mut staging = vec![0xA5; BLOCK as usize + 32];
-    let mut journal = vec![0; 1 << 14];
-    let memory = Lent { base: BASE, window: &mut window };
-    let begun = Instant::now();
-    let answer = entries::speed_run(&mut image, runs, AT_ONCE, memory, &mut staging, &mut journal)?;
-    let time = begun.elapsed();
-    assert_eq!(answer.status(), 0, "a run was refused");
-    assert_eq!(window[512..672], self::window()[..160], "a block was not moved");
-    Some((time, staging.iter().all(|&byte| byte == 0)))
+fn timed(make: &mut dyn FnMut(u64), times: u64) -> f64 {
+    let begun = clock::used();
+    make(times);
+    (clock::used() - begun) as f64 / times as f64
 }
 
-fn rust(start: &Device, runs: u64) -> Option<Duration> {
-    let mut oracle = Oracle::load(start.image(), BASE, &window()).ok()?;
-    let begun = Instant::now();
-    oracle.run_many(runs, 0, 0);
-    let time = begun.elapsed();
-    assert_eq!(oracle.window()[512..672], window()[..160], "a block was not moved");
-    Some(time)
+/// So many calls that a turn takes about as long as it is to take.
+fn times(make: &mut dyn FnMut(u64)) -> u64 {
+    let mut times = 16;
+    loop {
+        let begun = clock::used();
+        make(times);
+        let used = clock::used() - begun;
+        if used > TURN / 8 || times >= 1 << 24 {
+            return (times * TURN / used.max(1)).max(1);
+        }
+        times *= 2;
+    }
 }
 
-fn each(time: Duration) -> f64 {
-    time.as_nanos() as f64 / RUNS as f64
-}
-
-/// So many runs of one shape on one side; false where that side or shape is
-/// not there.
-fn only(words: &[String]) -> bool {
-    let [side, from, to, runs] = words else { return false };
-    let of = |bytes: &str| {
-        let bytes: u32 = bytes.parse().ok()?;
-        SHAPES.iter().flat_map(|shape| [shape.0, shape.1]).find(|size| size.bytes() == bytes)
+/// Both sides; the Rust's is none where it is not there.
+fn measured(call: Call) -> (Figure, Option<Figure>) {
+    let mut engine = Engine::new(call);
+    let mut engine = |n| engine.make(n);
+    let engine_times = times(&mut engine);
+    let Some(mut rust) = Rust::new(call) else {
+        let turns = (0..TURNS).map(|_| timed(&mut engine, engine_times)).collect();
+        return (Figure::of(turns), None);
     };
-    let (Some(from), Some(to), Ok(runs)) = (of(from), of(to), runs.parse()) else { return false };
-    let start = device(from, to);
+    let mut rust = |n| rust.make(n);
+    let rust_times = times(&mut rust);
+    let turns =
+        (0..TURNS).map(|_| (timed(&mut engine, engine_times), timed(&mut rust, rust_times)));
+    let (ours, theirs) = turns.unzip();
+    (Figure::of(ours), Some(Figure::of(theirs)))
+}
+
+/// One call so many times on one side; false where that side or call is not
+/// there.
+fn only(words: &[String]) -> bool {
+    let [side, name, times] = words else { return false };
+    let Some((_, call)) = call::all().into_iter().find(|(named, _)| named == name) else {
+        return false;
+    };
+    let Ok(times) = times.parse() else { return false };
     match side.as_str() {
-        "engine" => engine(&start, runs).is_some(),
-        "rust" => rust(&start, runs).is_some(),
-        _ => false,
+        "engine" => Engine::new(call).make(times),
+        "rust" => match Rust::new(call) {
+            Some(mut rust) => rust.make(times),
+            None => return false,
+        },
+        _ => return false,
     }
+    true
 }
 
 fn main() {
     let words: Vec<String> = std::env::args().skip(1).collect();
+    if words == ["calls"] {
+        call::all().iter().for_each(|(name, _)| println!("{name}"));
+        return;
+    }
     if !words.is_empty() {
         exit(if only(&words) { 0 } else { 1 });
     }
-    println!("{RUNS} runs of a {BLOCK}-byte block, best of {TRIES}, on {}", computer::name());
+    println!("processor time of one call in ns, median of {TURNS} turns (and quarters), each side");
+    println!("in turn; runs move {} bytes; on {}", call::BLOCK, computer::name());
     if cfg!(debug_assertions) {
         println!("built without optimisation: the figures say nothing (use --release)");
     }
-    println!("{:>10}  {:>12}  {:>12}  {:>6}  staging", "sizes", "engine", "Rust", "ratio");
-    for (from, to) in SHAPES {
-        let start = device(from, to);
-        let Some(seen) = measured(&start) else {
-            println!("skipped: the archive has no entry kp_speed_run");
-            return;
+    println!("{:>16}  {:>28}  {:>28}  {:>6}", "call", "engine", "Rust", "ratio");
+    for (name, call) in call::all() {
+        let (engine, rust) = measured(call);
+        let (shown, ratio) = match &rust {
+            Some(rust) => (rust.shown(), format!("{:.2}", engine.median / rust.median)),
+            None => ("-".to_string(), "-".to_string()),
         };
-        let sizes = format!("{} to {}", from.bytes(), to.bytes());
-        let staging = if seen.cleared { "cleared" } else { "not cleared" };
-        let time = each(seen.engine);
-        match seen.rust {
-            Some(rust) => {
-                let rust = each(rust);
-                let ratio = time / rust;
-                println!("{sizes:>10}  {time:>9.1} ns  {rust:>9.1} ns  {ratio:>6.2}  {staging}");
-            }
-            None => {
-                println!(
-                    "{sizes:>10}  {time:>9.1} ns  {:>12}  {:>6}  {staging}",
-                    "no sources", "-"
-                );
-            }
-        }
+        println!("{name:>16}  {:>28}  {shown:>28}  {ratio:>6}", engine.shown());
     }
 }

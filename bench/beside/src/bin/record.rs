@@ -58,12 +58,12 @@ fn case(random: &mut Random, number: usize) -> Option<Vec<Row>> {
     let rings = number >= RUNS + SEQUENCES;
     let made_so = if rings { Scene::ringing } else { Scene::small };
     let scene = made_so(random, begin.device(), begin.base, begin.window());
-    let mut image = scene.device.image().to_vec();
+    let mut image = scene.device.image();
     Oracle::settle(&mut image);
     let mut oracle = Oracle::load(&image, begin.base, &scene.window).ok()?;
     let mut rows = vec![begin.row()];
     let fresh = begin.device();
-    rows.extend(changes(false, (fresh.image(), &begin.window()), (&image, &scene.window)));
+    rows.extend(changes(false, (&fresh.image(), &begin.window()), (&image, &scene.window)));
     let mut state = (image, scene.window.clone());
     if number < RUNS {
         let call = scene.run_or_service(random);
