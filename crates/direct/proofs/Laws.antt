@@ -13,6 +13,7 @@ use Rattle.rules.specs.View.{view}
 use Rattle.rules.specs.declared.Acted.{Acted}
 use Rattle.rules.specs.declared.Device.{Device as HeldDevice}
 use Rattle.rules.specs.declared.Heard.{Heard}
+use Rattle.rules.specs.declared.Heard.the-variants as Heard
 use Rattle.image.specs.Image.{imageOf, deviceIn, isImage}
 use Rattle.act.specs.Parts.{Arrays, whole, toldDone}
 use Rattle.rules.proofs.Each.{Proper}
@@ -21,7 +22,8 @@ use Rattle.act.specs.declared.Core.{Core}
 use Rattle.act.specs.declared.Done.{Done}
 use Rattle.direct.proofs.Hears.{ack-keeps}
 use Rattle.answers.specs.Answers.{packed, left, leftBy}
-use Rattle.direct.specs.Direct.{leftOf, freshBy, saved, savedBy, loadedBy}
+use Rattle.direct.specs.declared.Fed.{Fed}
+use Rattle.direct.specs.Direct.{fedCore, leftOf, freshBy, saved, savedBy, loadedBy}
 
 -- an act that was made, and what it answered put into one number
 pub act-left : (a : Acted) {window staging journal : List ℕ} {t : Told} {r : ℕ} {d : HeldDevice} → toldActed a window staging journal ≡ t → (r ≡ packed (verdictNumber (a .verdict)) 0 0 (a .used)) × (d ≡ a .device)
@@ -40,6 +42,13 @@ unfolding leftBy
 done-left c h k a y x base w s j w′ s′ j′ used {r} q p =
     let i : a .core .«ignore_masks» ≡ k .«ignore_masks» = ap (λ t. deviceTold t .ignore) q ∙ act-keeps-setting base (whole k y) w j used c s in
     rw (← q, p) (ap (λ b. left (packed (verdictNumber (a .verdict)) (heardLevel h) (heardVector h) (a .used)) (whole (record { scalars = a .core .scalars; controllers = a .core .controllers; «ignore_masks» = b }) x) w′ s′ j′) (sym i))
+
+-- the same, handed back as a struct
+pub fed-left : (c : Asked) (k : Core) (a : Done) (r : Fed) (y x : Arrays) (base : ℕ) (w s j w′ s′ j′ : List ℕ) (used : ℕ)
+    → toldDone Heard.Nothing a x w′ s′ j′ ≡ after c base (whole k y) w s j used
+    → (r .answer ≡ packed (verdictNumber (a .verdict)) 0 0 (a .used)) × (r .scalars ≡ a .core .scalars) × (r .controllers ≡ a .core .controllers)
+    → left (r .answer) (whole (fedCore k r) x) w′ s′ j′ ≡ leftOf (after c base (whole k y) w s j used)
+fed-left c k a r y x base w s j w′ s′ j′ used q p = rw (p .1, p .2) (done-left c Heard.Nothing k a y x base w s j w′ s′ j′ used q (p .0))
 
 -- an acknowledge changes neither numbers nor controllers
 pub heard-left : (ipl : ℕ) (h : Heard) (k : Core) (a : Done) (y x : Arrays) (base : ℕ) (w s j w′ s′ j′ : List ℕ) (used : ℕ) {r : ℕ} → Proper (whole k y)

@@ -7,14 +7,12 @@ use lib.Dec.{eqb, ltb}
 use lib.ListN.{length}
 use Rattle.rules.specs.Calls.{Asked, Told, after, fresh}
 use Rattle.rules.specs.State.{Device}
-use Rattle.rules.specs.declared.Device.{Device as HeldDevice}
+use Rattle.rules.proofs.Each.{Proper}
+use Rattle.act.specs.Parts.{Arrays, working, whole}
+use Rattle.act.specs.declared.Core.{Core}
 use Rattle.image.specs.Image.{imageOf, deviceIn, isImage}
 use Rattle.answers.specs.Answers.{packed, Left, left, leftBy}
-use Rattle.direct.specs.declared.Counted.{Counted}
 use Rattle.direct.specs.declared.Fed.{Fed}
-use Rattle.direct.specs.declared.Heeded.{Heeded}
-use Rattle.direct.specs.declared.Ran.{Ran}
-use Rattle.direct.specs.declared.Written.{Written}
 
 -- an act or a take-back: what the call tells
 abbrev pub leftOf : Told → Left Device
@@ -44,64 +42,21 @@ savedBy d image = cond (eqb (length image) 8720) (saved 0 (imageOf d)) (saved (p
 unfoldable pub loadedBy : Device → List ℕ → Left Device
 loadedBy d image = cond (isImage image) (left 0 (deviceIn image) [] [] []) (left (packed 255 0 0 0) d [] [] [])
 
--- ---- a device with the fields that a call can change
+-- ---- an act on a device in parts: a core by value, arrays lent
 
-abbrev pub writes : HeldDevice → Written → HeldDevice
-writes d r = record {
-  scalars = r .scalars;
-  table = r .table;
-  busy = d .busy;
-  majors = d .majors;
-  taken = d .taken;
-  pending = d .pending;
-  controllers = r .controllers;
-  «ignore_masks» = d .«ignore_masks»;
-}
+-- a core with the numbers and controllers that were handed back: no call changes the setting
+abbrev pub fedCore : Core → Fed → Core
+fedCore k r = record { scalars = r .scalars; controllers = r .controllers; «ignore_masks» = k .«ignore_masks» }
 
-abbrev pub feeds : HeldDevice → Fed → HeldDevice
-feeds d r = record {
-  scalars = r .scalars;
-  table = d .table;
-  busy = d .busy;
-  majors = d .majors;
-  taken = d .taken;
-  pending = d .pending;
-  controllers = r .controllers;
-  «ignore_masks» = d .«ignore_masks»;
-}
+-- of one that is lent neither window nor staging: of a device with core k and arrays x before it and x′ after it
+abbrev pub Feeds : Asked → Core → Fed → Arrays → Arrays → List ℕ → List ℕ → ℕ → Type 0
+Feeds c k r x x′ j j′ used = Proper (whole k x) → Aside c (whole k x) (whole (fedCore k r) x′) j j′ used (r .answer)
 
-abbrev pub counts : HeldDevice → Counted → HeldDevice
-counts d r = record {
-  scalars = r .scalars;
-  table = d .table;
-  busy = d .busy;
-  majors = d .majors;
-  taken = d .taken;
-  pending = r .pending;
-  controllers = r .controllers;
-  «ignore_masks» = d .«ignore_masks»;
-}
+-- of one that changes arrays alone
+abbrev pub Heeds : Asked → Core → ℕ → Arrays → Arrays → List ℕ → List ℕ → ℕ → Type 0
+Heeds c k r x x′ j j′ used = Proper (whole k x) → Aside c (whole k x) (whole k x′) j j′ used r
 
-abbrev pub heeds : HeldDevice → Heeded → HeldDevice
-heeds d r = record {
-  scalars = d .scalars;
-  table = d .table;
-  busy = d .busy;
-  majors = d .majors;
-  taken = r .taken;
-  pending = d .pending;
-  controllers = d .controllers;
-  «ignore_masks» = d .«ignore_masks»;
-}
-
-abbrev pub runs : HeldDevice → Ran → HeldDevice
-runs d r = record {
-  scalars = r .scalars;
-  table = r .table;
-  busy = r .busy;
-  majors = r .majors;
-  taken = d .taken;
-  pending = r .pending;
-  controllers = r .controllers;
-  «ignore_masks» = d .«ignore_masks»;
-}
+-- of a run or a service: w, s, j, tb, b, m, p are window, staging, journal, table, busy, majors and pending
+abbrev pub RunsFed : Asked → ℕ → Core → Fed → Arrays → List ℕ → List ℕ → List ℕ → List ℕ → List ℕ → List ℕ → List ℕ → List ℕ → List ℕ → List ℕ → List ℕ → List ℕ → List ℕ → List ℕ → ℕ → Type 0
+RunsFed c base k r x w w′ s s′ j j′ tb tb′ b b′ m m′ p p′ used = Proper (whole k (working x tb b m p))
+    → left (r .answer) (whole (fedCore k r) (working x tb′ b′ m′ p′)) w′ s′ j′ ≡ leftOf (after c base (whole k (working x tb b m p)) w s j used)

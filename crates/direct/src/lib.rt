@@ -3,6 +3,7 @@
 // contract is that of the call. A function over a reference to a struct is proved by a walk by hand: so each of these is one call, some stores and
 // one number.
 use act::Core;
+use act::Done;
 use rules::Acted;
 use rules::Controller;
 use rules::Device;
@@ -10,10 +11,12 @@ use rules::Scalars;
 ghost use mathlib.Core.List.{[]};
 ghost use mathlib.Core.Path.{_≡_};
 ghost use Prim.Native.Nat.{_%_, _^_};
-ghost use Rattle.rules.specs.Calls.{verdictNumber, after, afterBack, afterRead, write, inputs, pending, run, service, ack};
+ghost use Rattle.rules.specs.Calls.{verdictNumber, after, afterBack, afterRead, write, inputs, pending as pendingCall, run, service, ack};
 ghost use Rattle.rules.specs.View.{view};
+ghost use Rattle.act.specs.Lent.{_⇒_};
+ghost use Rattle.act.specs.Parts.{Arrays, tabled, counted, taking};
 ghost use Rattle.answers.specs.Answers.{packed, left, readBy};
-ghost use Rattle.direct.specs.Direct.{leftOf, Aside, freshBy, saved, savedBy, loadedBy, writes, feeds, counts, heeds, runs};
+ghost use Rattle.direct.specs.Direct.{leftOf, Aside, Feeds, Heeds, RunsFed, freshBy, saved, savedBy, loadedBy};
 
 // The answer of a call, and the device after it.
 pub struct Entered {
@@ -21,40 +24,11 @@ pub struct Entered {
     pub device: Device,
 }
 
-// The same, but of the device only what the call can change: a write; inputs; pending; an acknowledge; a run or a service.
-pub struct Written {
-    pub answer: u64,
-    pub scalars: Scalars,
-    pub controllers: [Controller; 3],
-    pub table: [u8; 2048],
-}
-
+// The same of a call that works on the device's arrays in place: of the rest what the call can change.
 pub struct Fed {
     pub answer: u64,
     pub scalars: Scalars,
     pub controllers: [Controller; 3],
-}
-
-pub struct Counted {
-    pub answer: u64,
-    pub scalars: Scalars,
-    pub controllers: [Controller; 3],
-    pub pending: [u32; 64],
-}
-
-pub struct Heeded {
-    pub answer: u64,
-    pub taken: [u64; 192],
-}
-
-pub struct Ran {
-    pub answer: u64,
-    pub scalars: Scalars,
-    pub controllers: [Controller; 3],
-    pub table: [u8; 2048],
-    pub busy: [u64; 64],
-    pub majors: [u64; 64],
-    pub pending: [u32; 64],
 }
 
 // ---- answers
@@ -67,6 +41,21 @@ fn answered(a: Acted) -> Entered
     Entered {
         answer: answers::answer_of(v, a.used),
         device,
+    }
+}
+
+fn handed_back(r: Done) -> Fed
+    ensures { λ f. ⌜ (f .answer ≡ packed (verdictNumber (r .verdict)) 0 0 (r .used)) × (f .scalars ≡ r .core .scalars) × (f .controllers ≡ r .core .controllers) ⌝ }
+{
+    let core = r.core;
+    let verdict = r.verdict;
+    let answer = answers::answer_of(verdict, r.used);
+    let scalars = core.scalars;
+    let controllers = core.controllers;
+    Fed {
+        answer,
+        scalars,
+        controllers,
     }
 }
 
@@ -93,240 +82,144 @@ fn read_by(d: Device, address: u32, size: u32) -> u64
     answers::reading_of(registers::read(d, address, size))
 }
 
+// ---- the acts, on a device in parts: its core by value, its arrays lent
+
 fn write_by(
-    d: Device,
+    k: Core,
     address: u32,
     size: u32,
     value: u32,
+    table: &mut [u8; 2048],
+    pending: &mut [u32; 64],
     journal: &mut [u8],
     used: u64,
-) -> Written
-    ensures { λ r. ⌜ Aside (write address size value) (view d) (view (writes d r)) (now (journal .entry)) (now (journal .exit)) used (r .answer) ⌝ }
+) -> Fed
+    ensures { λ r. ⌜ ((x : Arrays) → (Feeds (write address size value) k r (tabled (counted x (now (pending .entry))) (now (table .entry))) (tabled (counted x (now (pending .exit))) (now (table .exit))) ⇒ journal) used) ⌝ }
 {
-    let scalars = d.scalars;
-    let controllers = d.controllers;
-    let k = Core {
-        scalars,
-        controllers,
-        ignore_masks: d.ignore_masks,
-    };
-    let mut table = d.table;
-    let pending = d.pending;
-    let r = registers::write_in(
+    handed_back(registers::write_in(
         k,
         address,
         size,
         value,
-        &mut table,
-        &pending,
+        table,
+        pending,
         journal,
         used as usize,
-    );
-    let core = r.core;
-    let verdict = r.verdict;
-    let answer = answers::answer_of(verdict, r.used);
-    let scalars_now = core.scalars;
-    let controllers_now = core.controllers;
-    Written {
-        answer,
-        scalars: scalars_now,
-        controllers: controllers_now,
-        table,
-    }
+    ))
 }
 
 fn inputs_by(
-    d: Device,
+    k: Core,
     standing: u64,
     lines0: u64,
     lines1: u64,
     lines2: u64,
+    pending: &mut [u32; 64],
     journal: &mut [u8],
     used: u64,
 ) -> Fed
-    ensures { λ r. ⌜ Aside (inputs standing lines0 lines1 lines2) (view d) (view (feeds d r)) (now (journal .entry)) (now (journal .exit)) used (r .answer) ⌝ }
+    ensures { λ r. ⌜ ((x : Arrays) → (Feeds (inputs standing lines0 lines1 lines2) k r (counted x (now (pending .entry))) (counted x (now (pending .exit))) ⇒ journal) used) ⌝ }
 {
-    let scalars = d.scalars;
-    let controllers = d.controllers;
-    let k = Core {
-        scalars,
-        controllers,
-        ignore_masks: d.ignore_masks,
-    };
-    let pending = d.pending;
-    let r = registers::inputs_in(
+    handed_back(registers::inputs_in(
         k,
         standing,
         lines0,
         lines1,
         lines2,
-        &pending,
+        pending,
         journal,
         used as usize,
-    );
-    let core = r.core;
-    let verdict = r.verdict;
-    let answer = answers::answer_of(verdict, r.used);
-    let scalars_now = core.scalars;
-    let controllers_now = core.controllers;
-    Fed {
-        answer,
-        scalars: scalars_now,
-        controllers: controllers_now,
-    }
+    ))
 }
 
-fn pending_by(d: Device, channel: u32, count: u32, journal: &mut [u8], used: u64) -> Counted
-    ensures { λ r. ⌜ Aside (pending channel count) (view d) (view (counts d r)) (now (journal .entry)) (now (journal .exit)) used (r .answer) ⌝ }
+fn pending_by(
+    k: Core,
+    channel: u32,
+    count: u32,
+    pending: &mut [u32; 64],
+    journal: &mut [u8],
+    used: u64,
+) -> Fed
+    ensures { λ r. ⌜ ((x : Arrays) → (Feeds (pendingCall channel count) k r (counted x (now (pending .entry))) (counted x (now (pending .exit))) ⇒ journal) used) ⌝ }
 {
-    let scalars = d.scalars;
-    let controllers = d.controllers;
-    let k = Core {
-        scalars,
-        controllers,
-        ignore_masks: d.ignore_masks,
-    };
-    let mut pending = d.pending;
-    let r = registers::pending_in(k, channel, count, &mut pending, journal, used as usize);
-    let core = r.core;
-    let verdict = r.verdict;
-    let answer = answers::answer_of(verdict, r.used);
-    let scalars_now = core.scalars;
-    let controllers_now = core.controllers;
-    Counted {
-        answer,
-        scalars: scalars_now,
-        controllers: controllers_now,
-        pending,
-    }
+    handed_back(registers::pending_in(k, channel, count, pending, journal, used as usize))
 }
 
 // Of `ipl` the low byte counts.
-fn acknowledge_by(d: Device, ipl: u32, journal: &mut [u8], used: u64) -> Heeded
-    ensures { λ r. ⌜ Aside (ack (ipl % 2 ^ 8)) (view d) (view (heeds d r)) (now (journal .entry)) (now (journal .exit)) used (r .answer) ⌝ }
+fn acknowledge_by(k: Core, ipl: u32, taken: &mut [u64; 192], journal: &mut [u8], used: u64) -> u64
+    ensures { λ r. ⌜ ((x : Arrays) → (Heeds (ack (ipl % 2 ^ 8)) k r (taking x (now (taken .entry))) (taking x (now (taken .exit))) ⇒ journal) used) ⌝ }
 {
-    let scalars = d.scalars;
-    let controllers = d.controllers;
-    let k = Core {
-        scalars,
-        controllers,
-        ignore_masks: d.ignore_masks,
-    };
-    let mut taken = d.taken;
-    let r = registers::acknowledge_in(k, (ipl % 0x100) as u8, &mut taken, journal, used as usize);
+    let r = registers::acknowledge_in(k, (ipl % 0x100) as u8, taken, journal, used as usize);
     let done = r.done;
     let heard = r.heard;
     let verdict = done.verdict;
-    let answer = answers::heard_answer(verdict, heard, done.used);
-    Heeded { answer, taken }
+    answers::heard_answer(verdict, heard, done.used)
 }
 
 fn run_by(
-    d: Device,
+    k: Core,
     time: u64,
     pace: u64,
     base: u32,
     window: &mut [u8],
+    table: &mut [u8; 2048],
+    busy: &mut [u64; 64],
+    majors: &mut [u64; 64],
+    pending: &mut [u32; 64],
     staging: &mut [u8],
     journal: &mut [u8],
     used: u64,
-) -> Ran
-    ensures { λ r. ⌜ left (r .answer) (view (runs d r)) (now (window .exit)) (now (staging .exit)) (now (journal .exit)) ≡ leftOf (after (run time pace) base (view d) (now (window .entry)) (now (staging .entry)) (now (journal .entry)) used) ⌝ }
+) -> Fed
+    ensures { λ r. ⌜ ((x : Arrays) → (RunsFed (run time pace) base k r x ⇒ window ⇒ staging ⇒ journal ⇒ table ⇒ busy ⇒ majors ⇒ pending) used) ⌝ }
 {
-    let scalars = d.scalars;
-    let controllers = d.controllers;
-    let k = Core {
-        scalars,
-        controllers,
-        ignore_masks: d.ignore_masks,
-    };
-    let mut table = d.table;
-    let mut busy = d.busy;
-    let mut majors = d.majors;
-    let mut pending = d.pending;
-    let r = engine::run_in(
+    handed_back(engine::run_in(
         false,
         k,
         time,
         pace,
         base,
         window,
-        &mut table,
-        &mut busy,
-        &mut majors,
-        &mut pending,
-        staging,
-        journal,
-        used as usize,
-    );
-    let core = r.core;
-    let verdict = r.verdict;
-    let answer = answers::answer_of(verdict, r.used);
-    let scalars_now = core.scalars;
-    let controllers_now = core.controllers;
-    Ran {
-        answer,
-        scalars: scalars_now,
-        controllers: controllers_now,
         table,
         busy,
         majors,
         pending,
-    }
+        staging,
+        journal,
+        used as usize,
+    ))
 }
 
 fn service_by(
-    d: Device,
+    k: Core,
     time: u64,
     pace: u64,
     base: u32,
     window: &mut [u8],
+    table: &mut [u8; 2048],
+    busy: &mut [u64; 64],
+    majors: &mut [u64; 64],
+    pending: &mut [u32; 64],
     staging: &mut [u8],
     journal: &mut [u8],
     used: u64,
-) -> Ran
-    ensures { λ r. ⌜ left (r .answer) (view (runs d r)) (now (window .exit)) (now (staging .exit)) (now (journal .exit)) ≡ leftOf (after (service time pace) base (view d) (now (window .entry)) (now (staging .entry)) (now (journal .entry)) used) ⌝ }
+) -> Fed
+    ensures { λ r. ⌜ ((x : Arrays) → (RunsFed (service time pace) base k r x ⇒ window ⇒ staging ⇒ journal ⇒ table ⇒ busy ⇒ majors ⇒ pending) used) ⌝ }
 {
-    let scalars = d.scalars;
-    let controllers = d.controllers;
-    let k = Core {
-        scalars,
-        controllers,
-        ignore_masks: d.ignore_masks,
-    };
-    let mut table = d.table;
-    let mut busy = d.busy;
-    let mut majors = d.majors;
-    let mut pending = d.pending;
-    let r = engine::run_in(
+    handed_back(engine::run_in(
         true,
         k,
         time,
         pace,
         base,
         window,
-        &mut table,
-        &mut busy,
-        &mut majors,
-        &mut pending,
-        staging,
-        journal,
-        used as usize,
-    );
-    let core = r.core;
-    let verdict = r.verdict;
-    let answer = answers::answer_of(verdict, r.used);
-    let scalars_now = core.scalars;
-    let controllers_now = core.controllers;
-    Ran {
-        answer,
-        scalars: scalars_now,
-        controllers: controllers_now,
         table,
         busy,
         majors,
         pending,
-    }
+        staging,
+        journal,
+        used as usize,
+    ))
 }
 
 fn take_back_by(d: Device, base: u32, window: &mut [u8], journal: &mut [u8], used: u64) -> Entered
@@ -391,10 +284,23 @@ pub extern "C" fn kp_device_write(
 ) -> u64
     ensures { λ r. ⌜ Aside (write address size value) (view (now (d .entry))) (view (now (d .exit))) (now (journal .entry)) (now (journal .exit)) used r ⌝ }
 {
-    let e = write_by(*d, address, size, value, journal, used);
+    let k = Core {
+        scalars: d.scalars,
+        controllers: d.controllers,
+        ignore_masks: d.ignore_masks,
+    };
+    let e = write_by(
+        k,
+        address,
+        size,
+        value,
+        &mut d.table,
+        &mut d.pending,
+        journal,
+        used,
+    );
     d.scalars = e.scalars;
     d.controllers = e.controllers;
-    d.table = e.table;
     e.answer
 }
 
@@ -410,7 +316,21 @@ pub extern "C" fn kp_device_inputs(
 ) -> u64
     ensures { λ r. ⌜ Aside (inputs standing lines0 lines1 lines2) (view (now (d .entry))) (view (now (d .exit))) (now (journal .entry)) (now (journal .exit)) used r ⌝ }
 {
-    let e = inputs_by(*d, standing, lines0, lines1, lines2, journal, used);
+    let k = Core {
+        scalars: d.scalars,
+        controllers: d.controllers,
+        ignore_masks: d.ignore_masks,
+    };
+    let e = inputs_by(
+        k,
+        standing,
+        lines0,
+        lines1,
+        lines2,
+        &mut d.pending,
+        journal,
+        used,
+    );
     d.scalars = e.scalars;
     d.controllers = e.controllers;
     e.answer
@@ -424,12 +344,16 @@ pub extern "C" fn kp_device_pending(
     journal: &mut [u8],
     used: u64,
 ) -> u64
-    ensures { λ r. ⌜ Aside (pending channel count) (view (now (d .entry))) (view (now (d .exit))) (now (journal .entry)) (now (journal .exit)) used r ⌝ }
+    ensures { λ r. ⌜ Aside (pendingCall channel count) (view (now (d .entry))) (view (now (d .exit))) (now (journal .entry)) (now (journal .exit)) used r ⌝ }
 {
-    let e = pending_by(*d, channel, count, journal, used);
+    let k = Core {
+        scalars: d.scalars,
+        controllers: d.controllers,
+        ignore_masks: d.ignore_masks,
+    };
+    let e = pending_by(k, channel, count, &mut d.pending, journal, used);
     d.scalars = e.scalars;
     d.controllers = e.controllers;
-    d.pending = e.pending;
     e.answer
 }
 
@@ -442,9 +366,12 @@ pub extern "C" fn kp_device_acknowledge(
 ) -> u64
     ensures { λ r. ⌜ Aside (ack (ipl % 2 ^ 8)) (view (now (d .entry))) (view (now (d .exit))) (now (journal .entry)) (now (journal .exit)) used r ⌝ }
 {
-    let e = acknowledge_by(*d, ipl, journal, used);
-    d.taken = e.taken;
-    e.answer
+    let k = Core {
+        scalars: d.scalars,
+        controllers: d.controllers,
+        ignore_masks: d.ignore_masks,
+    };
+    acknowledge_by(k, ipl, &mut d.taken, journal, used)
 }
 
 #[no_mangle]
@@ -460,13 +387,27 @@ pub extern "C" fn kp_device_run(
 ) -> u64
     ensures { λ r. ⌜ left r (view (now (d .exit))) (now (window .exit)) (now (staging .exit)) (now (journal .exit)) ≡ leftOf (after (run time pace) base (view (now (d .entry))) (now (window .entry)) (now (staging .entry)) (now (journal .entry)) used) ⌝ }
 {
-    let e = run_by(*d, time, pace, base, window, staging, journal, used);
+    let k = Core {
+        scalars: d.scalars,
+        controllers: d.controllers,
+        ignore_masks: d.ignore_masks,
+    };
+    let e = run_by(
+        k,
+        time,
+        pace,
+        base,
+        window,
+        &mut d.table,
+        &mut d.busy,
+        &mut d.majors,
+        &mut d.pending,
+        staging,
+        journal,
+        used,
+    );
     d.scalars = e.scalars;
     d.controllers = e.controllers;
-    d.table = e.table;
-    d.busy = e.busy;
-    d.majors = e.majors;
-    d.pending = e.pending;
     e.answer
 }
 
@@ -483,13 +424,27 @@ pub extern "C" fn kp_device_service(
 ) -> u64
     ensures { λ r. ⌜ left r (view (now (d .exit))) (now (window .exit)) (now (staging .exit)) (now (journal .exit)) ≡ leftOf (after (service time pace) base (view (now (d .entry))) (now (window .entry)) (now (staging .entry)) (now (journal .entry)) used) ⌝ }
 {
-    let e = service_by(*d, time, pace, base, window, staging, journal, used);
+    let k = Core {
+        scalars: d.scalars,
+        controllers: d.controllers,
+        ignore_masks: d.ignore_masks,
+    };
+    let e = service_by(
+        k,
+        time,
+        pace,
+        base,
+        window,
+        &mut d.table,
+        &mut d.busy,
+        &mut d.majors,
+        &mut d.pending,
+        staging,
+        journal,
+        used,
+    );
     d.scalars = e.scalars;
     d.controllers = e.controllers;
-    d.table = e.table;
-    d.busy = e.busy;
-    d.majors = e.majors;
-    d.pending = e.pending;
     e.answer
 }
 

@@ -1,8 +1,7 @@
 -- `direct::acknowledge_by` meets its contract, from that of the call on a device in parts. Assumes nothing.
 use Prim.Native.Nat.{_%_, _^_}
 use Rattle.direct.proofs.Laws.{heard-left}
-use Rattle.rules.proofs.Each.{typed-proper}
-use Rattle.act.specs.Parts.{arraysOf, coreOf, taking}
+use Rattle.act.specs.Parts.{taking}
 use borrow.Author.Needs.{needs}
 use Rattle.direct.proofs.acknowledge_by.Statement.{statement}
 use Rattle.direct.proofs.acknowledge_by.Tie as tie
@@ -20,11 +19,10 @@ same-length : tie.Need-same-length
 same-length c = search needs
 
 returns : tie.Need-returns
-returns c base w staging =
-    let a = c .before .before .before .before .before .before .before .before .before .before .before .args in
-    let proper = typed-proper (a .d) (c .before .before .before .before .before .before .before .before .before .before .before .good .0) in
-    heard-left (a .ipl % 2 ^ 8) _ (coreOf (a .d)) (c .before .before .before .before .acknowledge-in .result .done) (arraysOf (a .d)) (taking (arraysOf (a .d)) _) base w staging _ w staging _ (a .used) proper
-    (c .before .before .before .before .acknowledge-in .ensures (arraysOf (a .d)) proper base w staging) (c .heard-answer .ensures)
+returns c x proper base w staging =
+    let a = c .before .before .before .before .before .before .before .before .args in
+    heard-left (a .ipl % 2 ^ 8) _ (a .k) (c .before .before .before .before .acknowledge-in .result .done) (taking x _) (taking x _) base w staging _ w staging _ (a .used) proper
+    (c .before .before .before .before .acknowledge-in .ensures x proper base w staging) (c .heard-answer .ensures)
 
 pub acknowledge-by-spec : {M : Type 1} → statement M
 acknowledge-by-spec = tie.close (tie.spec cast-acknowledge-in acknowledge-in-requires heard-answer-requires same-length returns)
