@@ -6,7 +6,7 @@ use Prim.Native.Nat.{ℕ, suc, _+_, _-_, _/_, _≤_, _<_}
 use native.Mathlib.Nat.{add-suc, add-zero, suc-add, suc-inj, not-suc-le-zero, le-of-eq}
 use native.Mathlib.Numerals.{add-one}
 use native.Mathlib.Omega.{arith}
-use borrow.Author.Tests.{le-leb, lt-leb, eq-eqb, ne-eqb}
+use borrow.Author.Tests.{le-leb, lt-leb, eq-eqb, eqb-true, ne-eqb}
 use lib.Bits.{bitOr, bitXor, or-add-and, xor-add-and, and-le-l, and-le-r}
 use lib.Dec.{eqb}
 use lib.ListN.{length, getD, take, drop, length-take, length-drop, take-append-drop, drop-of-length-le}
@@ -168,9 +168,9 @@ module _ (xs ys : List ℕ) (i o : ℕ) (so-far : o ≡ 0 → take i xs ≡ take
       let both : (o ≡ 0) × (bitXor (getD xs i 0) (getD ys i 0) ≡ 0) = or-none o (bitXor (getD xs i 0) (getD ys i 0)) e in
       rw (add-one i, take-suc xs i 0 h, take-suc ys i 0 k, so-far (both .0), xor-none (getD xs i 0) (getD ys i 0) (both .1))
 
-  -- once all are passed there is no record of them
-  pub same-all : (n : ℕ) (s : Noting) → o ≡ 0 → length xs ≤ i → length ys ≤ i → s ≡ addAll (changed n xs ys) s
-  same-all n s e h k = none-changed n xs ys s (sym (take-all i xs h) ∙ so-far e ∙ take-all i ys k)
+  -- once all are passed
+  pub same-all : eqb o 0 ≡ true → length xs ≤ i → length ys ≤ i → xs ≡ ys
+  same-all e h k = sym (take-all i xs h) ∙ so-far (eqb-true o 0 e) ∙ take-all i ys k
 
 -- ---- the end record, by cases
 

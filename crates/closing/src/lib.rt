@@ -5,10 +5,11 @@
 use act::Core;
 use rules::Controller;
 use rules::Scalars;
-ghost use mathlib.Core.Bool.{false};
+ghost use mathlib.Core.Bool.{true, false};
 ghost use mathlib.Core.List.{_∷_, []};
 ghost use mathlib.Core.Path.{_≡_};
 ghost use Prim.Native.Nat.{_<_};
+ghost use lib.ListN.{length};
 ghost use Rattle.rules.specs.View.{viewController};
 ghost use Rattle.rules.specs.Carry.{line};
 ghost use Rattle.rules.specs.Scalars.{viewScalars};
@@ -71,7 +72,8 @@ pub fn note_end(s: Noted, used: usize, journal: &mut [u8]) -> Noted
 
 // ---- the fields of an array that differ: `first` is the number of its first element.
 // Most are the same at the end of an act, so an array is gone through in blocks, and only a block that differs goes element by element.
-// Three functions for each width of element: each element, a block, all. One law for all widths (`turn`, `same-more` and `block` of proofs/Laws).
+// Four functions for each width of element: each element, whether all are the same, a block, all. One law for all widths (`turn`, `same-more` and
+// `block` of proofs/Laws).
 
 // How many elements a block has.
 const BLOCK: usize = 16;
@@ -92,8 +94,21 @@ fn note_each_wide(at: usize, before: &[u64], after: &[u64], first: u32, journal:
     Noted::At(end)
 }
 
-// Whether elements differ is asked once, of all XORs together: a test for each costs more. (The loop goes by the length and not by BLOCK: of a
-// loop whose length is known LLVM makes a test for each again.)
+// Whether elements are the same is asked once, of all XORs together: a test for each costs more. (The loop goes by the length and not by BLOCK: of
+// a loop whose length is known LLVM makes a test for each again.)
+fn same_wide(before: &[u64], after: &[u64]) -> bool
+    requires { ⌜ length (now before) ≡ length (now after) ⌝ }
+    ensures { λ r. ⌜ (r ≡ true → now (before .entry) ≡ now (after .entry)) ⌝ }
+{
+    let mut other = 0;
+    let mut i = 0;
+    while i < before.len() {
+        other |= before[i] ^ after[i];
+        i += 1;
+    }
+    other == 0
+}
+
 fn note_wide_block(
     at: usize,
     before: &[u64],
@@ -104,13 +119,7 @@ fn note_wide_block(
     requires { ⌜ Noteworthy first (now before) (now after) ⌝ }
     ensures { λ r. ⌜ Notes first (now (before .entry)) (now (after .entry)) (At at) r ⇒ journal ⌝ }
 {
-    let mut other = 0;
-    let mut i = 0;
-    while i < before.len() {
-        other |= before[i] ^ after[i];
-        i += 1;
-    }
-    if other == 0 {
+    if same_wide(before, after) {
         return Noted::At(at);
     }
     note_each_wide(at, before, after, first, journal)
@@ -166,6 +175,19 @@ fn note_each_word(at: usize, before: &[u32], after: &[u32], first: u32, journal:
     Noted::At(end)
 }
 
+fn same_word(before: &[u32], after: &[u32]) -> bool
+    requires { ⌜ length (now before) ≡ length (now after) ⌝ }
+    ensures { λ r. ⌜ (r ≡ true → now (before .entry) ≡ now (after .entry)) ⌝ }
+{
+    let mut other = 0;
+    let mut i = 0;
+    while i < before.len() {
+        other |= before[i] ^ after[i];
+        i += 1;
+    }
+    other == 0
+}
+
 fn note_word_block(
     at: usize,
     before: &[u32],
@@ -176,13 +198,7 @@ fn note_word_block(
     requires { ⌜ Noteworthy first (now before) (now after) ⌝ }
     ensures { λ r. ⌜ Notes first (now (before .entry)) (now (after .entry)) (At at) r ⇒ journal ⌝ }
 {
-    let mut other = 0;
-    let mut i = 0;
-    while i < before.len() {
-        other |= before[i] ^ after[i];
-        i += 1;
-    }
-    if other == 0 {
+    if same_word(before, after) {
         return Noted::At(at);
     }
     note_each_word(at, before, after, first, journal)
@@ -238,9 +254,9 @@ fn note_each_byte(at: usize, before: &[u8], after: &[u8], first: u32, journal: &
     Noted::At(end)
 }
 
-fn note_byte_block(at: usize, before: &[u8], after: &[u8], first: u32, journal: &mut [u8]) -> Noted
-    requires { ⌜ Noteworthy first (now before) (now after) ⌝ }
-    ensures { λ r. ⌜ Notes first (now (before .entry)) (now (after .entry)) (At at) r ⇒ journal ⌝ }
+fn same_byte(before: &[u8], after: &[u8]) -> bool
+    requires { ⌜ length (now before) ≡ length (now after) ⌝ }
+    ensures { λ r. ⌜ (r ≡ true → now (before .entry) ≡ now (after .entry)) ⌝ }
 {
     let mut other = 0;
     let mut i = 0;
@@ -248,7 +264,14 @@ fn note_byte_block(at: usize, before: &[u8], after: &[u8], first: u32, journal: 
         other |= before[i] ^ after[i];
         i += 1;
     }
-    if other == 0 {
+    other == 0
+}
+
+fn note_byte_block(at: usize, before: &[u8], after: &[u8], first: u32, journal: &mut [u8]) -> Noted
+    requires { ⌜ Noteworthy first (now before) (now after) ⌝ }
+    ensures { λ r. ⌜ Notes first (now (before .entry)) (now (after .entry)) (At at) r ⇒ journal ⌝ }
+{
+    if same_byte(before, after) {
         return Noted::At(at);
     }
     note_each_byte(at, before, after, first, journal)
@@ -276,24 +299,30 @@ fn note_bytes(s: Noted, before: &[u8], after: &[u8], first: u32, journal: &mut [
     note_each_byte(at, &before[i..], &after[i..], first + i as u32, journal)
 }
 
-// "64+ch busy, 128+ch majors": `first` is the number of channel 0's.
-pub fn note_channels(
-    s: Noted,
-    before: &[u64; 64],
-    after: &[u64; 64],
-    first: u32,
-    journal: &mut [u8],
-) -> Noted
-    requires { ⌜ first < 512 ⌝ }
-    ensures { λ r. ⌜ Part 64 first (now (before .entry)) (now (after .entry)) s r ⇒ journal ⌝ }
+// "64+ch busy". Few runs change any, so all are looked at together first.
+pub fn note_busy(s: Noted, before: &[u64; 64], after: &[u64; 64], journal: &mut [u8]) -> Noted
+    ensures { λ r. ⌜ Part 64 64 (now (before .entry)) (now (after .entry)) s r ⇒ journal ⌝ }
 {
-    note_wides(s, before, after, first, journal)
+    if same_wide(before, after) {
+        return s;
+    }
+    note_wides(s, before, after, 64, journal)
 }
 
-// "192+ch pending".
+// "128+ch majors".
+pub fn note_majors(s: Noted, before: &[u64; 64], after: &[u64; 64], journal: &mut [u8]) -> Noted
+    ensures { λ r. ⌜ Part 64 128 (now (before .entry)) (now (after .entry)) s r ⇒ journal ⌝ }
+{
+    note_wides(s, before, after, 128, journal)
+}
+
+// "192+ch pending": as busy times.
 pub fn note_pending(s: Noted, before: &[u32; 64], after: &[u32; 64], journal: &mut [u8]) -> Noted
     ensures { λ r. ⌜ Part 64 192 (now (before .entry)) (now (after .entry)) s r ⇒ journal ⌝ }
 {
+    if same_word(before, after) {
+        return s;
+    }
     note_words(s, before, after, 192, journal)
 }
 

@@ -1,5 +1,4 @@
 // The DMA registers and the descriptor table, written.
-use act::Flow;
 use act::Step;
 use rules::START;
 use rules::Scalars;
@@ -177,7 +176,9 @@ fn word_written(
             };
             let n = c.scalars;
             let scalars = masks_written(n, off, v);
-            Step::Going(Flow { scalars, at: c.at })
+            let mut f = c;
+            f.scalars = scalars;
+            Step::Going(f)
         }
     }
 }

@@ -1,5 +1,4 @@
 // The command bytes of the DMA registers, 0x18 to 0x1F: what each does to the device's numbers and table, and to the journal.
-use act::Flow;
 use act::Step;
 use rules::DONE;
 use rules::START;
@@ -69,13 +68,10 @@ pub fn with_kick(s: Step, on: bool, m: u64) -> Step
     if !on {
         return s;
     }
-    let mut n = c.scalars;
-    let kick = n.kick | m;
-    n.kick = kick;
-    Step::Going(Flow {
-        scalars: n,
-        at: c.at,
-    })
+    let kick = c.scalars.kick | m;
+    let mut f = c;
+    f.scalars.kick = kick;
+    Step::Going(f)
 }
 
 // ---- commands that change flags of descriptors
@@ -161,7 +157,9 @@ pub fn command(
             };
             let n = c.scalars;
             let scalars = scalar_command(n, pending, k, v);
-            Step::Going(Flow { scalars, at: c.at })
+            let mut f = c;
+            f.scalars = scalars;
+            Step::Going(f)
         }
     }
 }

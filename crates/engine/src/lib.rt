@@ -137,8 +137,8 @@ fn end_turns(
     let core = s.core;
     let walk = s.walk;
     let numbers = closing::note_core(acting::begun(walk), k, core, journal);
-    let times = closing::note_channels(numbers, busy, busy_now, 64, journal);
-    let counts = closing::note_channels(times, majors, majors_now, 128, journal);
+    let times = closing::note_busy(numbers, busy, busy_now, journal);
+    let counts = closing::note_majors(times, majors, majors_now, journal);
     let waits = closing::note_pending(counts, pending, pending_now, journal);
     acting::done(k, s, closing::note_end(waits, used, journal), used)
 }

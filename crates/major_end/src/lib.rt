@@ -1,7 +1,6 @@
 // What follows the transfer of a minor loop: the descriptor's new addresses, count and `csr`, the flags, the links, and the major end.
 // Each contract says that the function does the steps of its tree (crate `rules`, specs/Minor.antt), whatever the rest of the world is.
 // Quoted words are document 01's; names are those of the Rust, where it has them.
-use act::Flow;
 use act::Step;
 use memory::Place;
 use rules::ACTIVE;
@@ -59,12 +58,10 @@ pub fn raise_int(s: Step, on: bool, ch: usize) -> Step
         return s;
     };
     if on {
-        let mut n = c.scalars;
-        n.int = words::gain_bit(n.int, ch);
-        return Step::Going(Flow {
-            scalars: n,
-            at: c.at,
-        });
+        let mask = words::gain_bit(c.scalars.int, ch);
+        let mut f = c;
+        f.scalars.int = mask;
+        return Step::Going(f);
     }
     s
 }
@@ -77,12 +74,10 @@ pub fn raise_kick(s: Step, on: bool, ch: usize) -> Step
         return s;
     };
     if on {
-        let mut n = c.scalars;
-        n.kick = words::gain_bit(n.kick, ch);
-        return Step::Going(Flow {
-            scalars: n,
-            at: c.at,
-        });
+        let mask = words::gain_bit(c.scalars.kick, ch);
+        let mut f = c;
+        f.scalars.kick = mask;
+        return Step::Going(f);
     }
     s
 }
@@ -95,12 +90,10 @@ pub fn lower_erq(s: Step, on: bool, ch: usize) -> Step
         return s;
     };
     if on {
-        let mut n = c.scalars;
-        n.erq = words::lose_bit(n.erq, ch);
-        return Step::Going(Flow {
-            scalars: n,
-            at: c.at,
-        });
+        let mask = words::lose_bit(c.scalars.erq, ch);
+        let mut f = c;
+        f.scalars.erq = mask;
+        return Step::Going(f);
     }
     s
 }

@@ -44,12 +44,10 @@ pub fn serve_line(
         Line::Sum(sum, flow) => {
             let until = time + sum * pace;
             busy[LINE] = until;
-            let mut n = flow.scalars;
-            n.deadline = earlier(n.deadline, until);
-            Step::Going(Flow {
-                scalars: n,
-                at: flow.at,
-            })
+            let deadline = earlier(flow.scalars.deadline, until);
+            let mut paced = flow;
+            paced.scalars.deadline = deadline;
+            Step::Going(paced)
         }
     }
 }
@@ -124,19 +122,14 @@ pub fn turn(
     requires { ⌜ (ch < 64) × (time ≤ 2 ^ 62) × (pace ≤ 1000000) ⌝ }
     ensures { λ r. ⌜ Turns (turn time pace ch) base (by staging) t r ⇒ window ⇒ journal ⇒ table ⇒ busy ⇒ majors ⇒ pending ⌝ }
 {
-    let mut n = t.scalars;
-    n.kick = words::lose_bit(n.kick, ch);
+    let kick = words::lose_bit(t.scalars.kick, ch);
+    let mut gone = t;
+    gone.scalars.kick = kick;
     if time < busy[ch] {
-        n.deferred = words::gain_bit(n.deferred, ch);
-        return Step::Going(Flow {
-            scalars: n,
-            at: t.at,
-        });
+        let deferred = words::gain_bit(t.scalars.deferred, ch);
+        gone.scalars.deferred = deferred;
+        return Step::Going(gone);
     }
-    let gone = Flow {
-        scalars: n,
-        at: t.at,
-    };
     serve(
         gone,
         time,

@@ -60,7 +60,7 @@ returns-2 : tie.Need-returns-2
 returns-2 c p d =
     let s = c .before .before .before .before .before .before .before .before .before .before .before .before .before .before .before .before .before .before .before .before in
     let a = s .args in
-    line-served (a .base) _ (a .time) (a .pace) (a .t) _ _ _ _ _ _ _ _ _ _ (c .before .before .before .before .before .before .before .before .before .before .before .line-loop .ensures) _ _ (c .before .before .before .l2 .given .1) _ _ refl (until-fits (a .time) _ (a .pace) (s .pre .0) (s .pre .1) (sum-below (c .before .before .before .l2 .given .1) (c .before .before .before .before .before .before .before .before .before .before .before .line-loop .ensures .small))) (c .earlier .ensures) (search needs) _ refl d p
+    line-served (a .base) _ (a .time) (a .pace) (a .t) _ _ _ _ _ _ _ _ _ _ (c .before .before .before .before .before .before .before .before .before .before .before .line-loop .ensures) _ _ (c .before .before .before .l2 .given .1) _ _ refl (until-fits (a .time) _ (a .pace) (s .pre .0) (s .pre .1) (sum-below (c .before .before .before .l2 .given .1) (c .before .before .before .before .before .before .before .before .before .before .before .line-loop .ensures .small))) (c .before .earlier .ensures) (search needs) _ refl d p
 
 pub serve-line-spec : {M : Type 1} → statement M
 serve-line-spec =

@@ -19,8 +19,8 @@ gain-bit-requires c κs = search needs
 
 returns : tie.Need-returns
 returns c =
-    let a = c .before .before .before .before .before .before .before .before .args in
-    turn-deferred (a .base) _ (a .time) (a .pace) (a .ch) (a .t) _ _ _ _ _ _ _ (c .before .before .before .lose-bit .ensures) (search needs) (c .before .if1 .taken) _ (c .gain-bit .ensures) (search needs) _ refl
+    let a = c .before .before .before .before .before .before .before .before .before .args in
+    turn-deferred (a .base) _ (a .time) (a .pace) (a .ch) (a .t) _ _ _ _ _ _ _ (c .before .before .before .before .before .lose-bit .ensures) (search needs) (c .before .before .if1 .taken) _ (c .before .gain-bit .ensures) (search needs) _ refl
 
 serve-requires : tie.Need-serve-requires
 serve-requires c κs = search needs
@@ -37,7 +37,7 @@ same-length-3 c = search needs
 returns-2 : tie.Need-returns-2
 returns-2 c =
     let a = c .before .before .before .before .before .before .before .before .before .before .before .before .before .before .before .before .before .before .before .before .before .args in
-    turn-served (a .base) _ (a .time) (a .pace) (a .ch) (a .t) _ _ _ _ _ _ _ (c .before .before .before .before .before .before .before .before .before .before .before .before .before .before .before .before .lose-bit .ensures) (search needs) (c .before .before .before .before .before .before .before .before .before .before .before .before .before .before .if1 .left) _ refl _ _ _ _ _ _ _ (c .before .before .before .before .before .before .serve .ensures)
+    turn-served (a .base) _ (a .time) (a .pace) (a .ch) (a .t) _ _ _ _ _ _ _ (c .before .before .before .before .before .before .before .before .before .before .before .before .before .before .before .before .before .lose-bit .ensures) (search needs) (c .before .before .before .before .before .before .before .before .before .before .before .before .before .before .if1 .left) _ refl _ _ _ _ _ _ _ (c .before .before .before .before .before .before .serve .ensures)
 
 pub turn-spec : {M : Type 1} → statement M
 turn-spec =
