@@ -2,15 +2,17 @@
 """walks.py REPOSITORY: writes the proofs by hand of the entries over a device behind a reference (crates/direct/proofs/kp_device_*), and those of the
 covered functions on a device in parts that they call (BYS).
 
-A walk differs from another only in the list of parameters and in the fields that are stored:
+A walk differs from another only in the list of parameters, in the fields that are lent and in what is stored:
 
-    fn F(d: &mut Device, PARAMS) -> u64 { let e = BY(*d, PARAMS); *d = e.device; e.answer }                     gen, stored = None
-    fn F(d: &mut Device, PARAMS) -> u64 { let e = BY(*d, PARAMS); d.FIELD = e.FIELD; .. e.answer }              gen, stored = [FIELD, ..]
-    fn F(d: &Device, PARAMS) -> u64 { BY(*d, PARAMS) }                                                         gen_shr
+    fn F(d: &mut Device, PARAMS) -> u64 { let e = BY(*d, PARAMS); *d = e.device; e.answer }                                  gen
+    fn F(d: &Device, PARAMS) -> u64 { BY(*d, PARAMS) }                                                                      gen_shr
+    fn F(d: &mut Device, PARAMS) -> u64 { let k = Core { .. }; let e = BY(k, .., &mut d.FIELD, ..); d.scalars = e.scalars;
+                                          d.controllers = e.controllers; e.answer }                                         gen_lent
+    fn F(d: &mut Device, PARAMS) -> u64 { let k = Core { .. }; BY(k, .., &mut d.FIELD, ..) }                                gen_lent, not fed
 
 PARAMS: ('u32' | 'u64', name), ('slice', name) for a `&mut [u8]`, ('shr', name) for a `&[u8]` (in gen only; it is given up: `stay-dropped`).
-BY is covered by the borrow checker. It returns a struct whose field 0 is `answer` and whose other fields are those stored, in the order of the
-stores; or, for gen_shr, a number. A definition in specs/Direct.antt (`make`) says what device the stores make of the one at entry.
+BY is covered by the borrow checker. It answers a struct of `answer` and `device` in gen, of `answer`, `scalars` and `controllers` in gen_lent, else a
+number. In gen_lent its parameters are the core, PARAMS, and the fields lent, which stand in front of staging and the journal.
 A context is a list; `pos` says where a local stands in it: local i of n at 2 (n - 1 - i), behind what was put in front.
 What it writes stands in the layout of `rt fmt`.
 """
@@ -23,9 +25,92 @@ W={'u32':'w32','u64':'w64'}
 FIELDS=['scalars','table','busy','majors','taken','pending','controllers','ignore_masks']
 FNAME=lambda f:'«%s»'%f if '_' in f else f
 
-# as `rt fmt` lays it out
+dash=lambda s:s.replace('_','-')
+
+def tup(xs):
+    s='tt'
+    for x in reversed(xs): s='(%s, %s)'%(x,s)
+    return s
+
+def prod(xs):
+    s='Unit {0}'
+    for x in reversed(xs): s='%s × (%s)'%(x,s) if s!='Unit {0}' else '%s × Unit {0}'%x
+    return s
+
+# the end of every proof: from the walk to the entry's statement. tells, goes: of the reference to the device
+def tail(P,fn,by,params,lt_of,nl,tells,goes,crate):
+    P('module _ {M : Type 1} (𝓤 : URA M) (H : Heap 𝓤) (A : Atoms 𝓤) (W : Given 𝓤 H A) (mem : Memory → SProp 𝓤) (run : Routine → Fun 𝓤) where')
+    P('  walks : (C : Calls 𝓤 H) (Λ : Loops 𝓤 H) → FmC 𝓤 H (W .laws) C → Triple 𝓤 (C #by) (By 𝓤 H A mem run) → Walks 𝓤 H A f.ended stayed (WpFn 𝓤 H C Λ code.function) (f.clauses 𝓤 H A mem run)')
+    kpath=lambda i:'κs'+' .1'*i+' .0'; qpath=lambda i:'qs'+' .1'*i+' .0'
+    vv=['ptr-vals']; tt_=[tells]; g=[goes]; rooms=''
+    wa=['(%s)'%kpath(i) for i in range(nl)]+['bounds']+['(%s)'%qpath(i) for i in range(nl)]+['(a .0 .ptr .0)','(a .0 .ptr .1)','(a .0 .name)','(a .0 .now)']
+    for i,(t,n) in enumerate(params):
+        p='a'+' .1'*(i+1)+' .0'; ar='are'+' .1'*(i+1)+' .0'
+        if t in('slice','shr'):
+            vv.append('slice-vals'); tt_.append('%s-slice-tells (named %d) (%s) u8'%({'slice':'mut','shr':'shr'}[t],lt_of[n],kpath(lt_of[n])))
+            g.append('goes-gave-slice 𝓤 H A W %d %d tt (plain (λ _. u8))'%(nl,lt_of[n]) if t=='slice' else 'goes-dropped 𝓤 H A W %d (shrSliceOf (%d ∷ []) tt (plain (λ _. u8))) yes (λ κs x f. refl)'%(nl,lt_of[n]))
+            wa+=['(%s .ptr .0)'%p,'(%s .ptr .1)'%p,'(%s .name)'%p,'(%s .now)'%p]; rooms+=' (%s .0 .1)'%ar
+        else:
+            vv.append('uint-vals '+W[t]); tt_.append('uint-tells '+W[t]); g.append('goes-none 𝓤 H A W %d (λ _. %s) yes (λ κs x f. refl)'%(nl,t))
+            wa+=['(%s)'%p,'(%s .1)'%ar]
+    P('  walks C Λ fm known = walked 𝓤 H A f.ended stayed (f.clauses 𝓤 H A mem run) (WpFn 𝓤 H C Λ code.function)')
+    P('      (λ κs. %s) (λ κs. %s)'%(tup(vv),tup(tt_)))
+    P('      (λ κs qs bounds a _ are. via 𝓤 _ (fst∗ 𝓤 _ (emp 𝓤)) (walk 𝓤 H A W mem run %s C Λ fm known%s))'%(' '.join(wa),rooms)); P('')
+    P('meets : {M : Type 1} (𝓤 : URA M) (H : Heap 𝓤) (A : Atoms 𝓤) → Given 𝓤 H A → (mem : Memory → SProp 𝓤) (run : Routine → Fun 𝓤) (𝓣 : Tables 𝓤 H) → Triple 𝓤 (𝓣 .C #by) (By 𝓤 H A mem run)')
+    P('    → Meets 𝓤 H A f.signature (WpFn 𝓤 H (𝓣 .C) (𝓣 .Λ) code.function) (f.spec 𝓤 H A mem run)')
+    P('meets 𝓤 H A W mem run 𝓣 known =')
+    P('    walk-meets 𝓤 H A f.ended stayed W %s (f.clauses 𝓤 H A mem run)'%tup(g))
+    P('    (WpFn 𝓤 H (𝓣 .C) (𝓣 .Λ) code.function) (WpFn-mono 𝓤 H (W .laws) 𝓣 code.function) (walks 𝓤 H A W mem run (𝓣 .C) (𝓣 .Λ) (fmOf 𝓤 H (W .laws) 𝓣) known)'); P('')
+    P('''pub %(F)s-spec : {M : Type 1} → stated.statement M
+unfolding code.routine tablesOf
+%(F)s-spec 𝓤 H 𝓜 𝓖 𝓡 =
+    entered 𝓤 H (tripleOf 𝓤 H (𝓖 .A) f.signature (f.spec 𝓤 H (𝓖 .A) (𝓜 .mem) (𝓡 .run)))
+    (tables 𝓤 H 𝓜 𝓡 code.env .C) (tables 𝓤 H 𝓜 𝓡 code.env .Λ) #f code.function (code.unfolded 𝓤 H 𝓜 𝓡)
+    (meets 𝓤 H (𝓖 .A) (givenOf 𝓤 H 𝓜 𝓖) (𝓜 .mem) (𝓡 .run) (tablesOf 𝓤 H 𝓜 (tables 𝓤 H 𝓜 𝓡 code.env))
+    (cited 𝓤 H (By 𝓤 H (𝓖 .A) (𝓜 .mem) (𝓡 .run)) 𝓜 𝓡 code.env #by by-def.routine code.calls-%(C)s·%(B)s (by-thm.met 𝓤 H 𝓜 𝓖 𝓡)))'''%dict(F=dash(fn),C=crate,B=dash(by)))
+
+# the beginning of a module: the entry's parameters and what stands for them
+def entry(P,params,refs,kk,qq,before=lambda:None):
+    hdr='module _ {M : Type 1} (𝓤 : URA M) (H : Heap 𝓤) (A : Atoms 𝓤) (W : Given 𝓤 H A) (at-mem : Memory → SProp 𝓤) (run : Routine → Fun 𝓤) (%s : Lft) (bounds : AllOutlive %d (f.signature .outlives) %s) (%s : Share) (b o : ℕ) (γ : GName) (h : Device)'%(' '.join(kk),len(kk),tup(kk),' '.join(qq))
+    arg=[]; argty=[]; vals=[]
+    for t,n in params:
+        if t in('slice','shr'):
+            hdr+=' (b-%s o-%s : ℕ) (γ-%s : GName) (ys-%s : List ℕ)'%(n,n,n,n)
+            arg.append('x-'+n); argty.append('RefT (List ℕ)'); vals.append('s-%s ∷ []'%n)
+        else:
+            hdr+=' (%s : ℕ) (%s-fits : %s < 2 ^ %s)'%(n,n,n,t[1:])
+            arg.append(n); argty.append('ℕ'); vals.append('vint %s %s ∷ []'%(W[t],n))
+    P(hdr+' where')
+    for n in refs:
+        P('  abbrev x-%s : RefT (List ℕ)'%n); P('  x-%s = record { ptr = (b-%s, o-%s); name = γ-%s; now = ys-%s }'%(n,n,n,n,n)); P('')
+        P('  abbrev s-%s : Val'%n); P('  s-%s = sliceVal (b-%s, o-%s) (length ys-%s)'%(n,n,n,n)); P('')
+    P('  abbrev Arg : Type 0'); P('  Arg = %s'%prod(['RefT Device']+argty)); P('')
+    P('  abbrev a : Arg'); P('  a = %s'%tup(['record { ptr = (b, o); name = γ; now = h }']+arg)); P('')
+    P('  abbrev Vals : Type 0'); P('  Vals = %s'%prod(['List Val']*(1+len(params)))); P('')
+    P('  abbrev vals : Vals'); P('  vals = %s'%tup(['vptr b o ∷ []']+vals)); P('')
+    before()
+    ghost='((%s, %s, bounds, a, vals), tt)'%(tup(kk),tup(qq))
+    P('  abbrev Post : Val → SProp 𝓤'); P('  Post = walkOf 𝓤 H A f.ended stayed (f.clauses 𝓤 H A at-mem run) .post %s'%ghost); P('')
+    return arg,vals,ghost
+
+# whether a name stands in a proof
+def stands(name,text):
+    if name[:1]=='_': return name.strip('_') in text
+    return re.search(r'(?<![\w·′.#-])%s(?![\w·′-])'%re.escape(name),text) is not None if name[0].isalnum() else name in text
+
+# as `rt fmt` lays it out, with those names imported that stand in the proof
 def tidy(text):
-    return '\n'.join(re.sub(r'(?<=\S) +',' ',l).replace(' )',')').rstrip() for l in text.split('\n'))
+    lines=text.split('\n')
+    body='\n'.join(l for l in lines if not l.startswith(('use ','--')))
+    out=[]
+    for l in lines:
+        m=re.fullmatch(r'use (\S+)\.\{(.*)\}',l)
+        if m:
+            some=[n for n in m.group(2).split(', ') if stands(n.split(' as ')[-1],body)]
+            if some: out.append('use %s.{%s}'%(m.group(1),', '.join(some)))
+        elif not (l.startswith('use ') and not re.search(r'(?<![\w·′-])%s\.'%re.escape(l.split(' as ')[-1]),body)):
+            out.append(re.sub(r'(?<=\S) +',' ',l).replace(' )',')').rstrip())
+    return '\n'.join(out)
 
 # what a proof names of specs: of crate answers, and of this one
 ANSWERS=['left','readBy']
@@ -35,31 +120,13 @@ def specs(crate,names):
         if some: lines.append('use %s.{%s}'%(home,', '.join(some)))
     return '\n'.join(lines)
 
-def gen(fn,by,params,call,uses,struct='Entered',stored=None,make=None,crate='direct'):
-    """stored: None where the whole device is stored (field 1 of the answer), else the device's fields in the answer's order;
-    make: the definition in specs/Direct.antt that makes the device at exit of the one at entry and the answer."""
-    exit=lambda r:'%s .device'%r if stored is None else '%s h %s'%(make,r)
+def gen(fn,by,params,call,uses,struct='Entered',crate='direct'):
+    """fn F(d: &mut Device, PARAMS) -> u64 { let e = BY(*d, PARAMS); *d = e.device; e.answer }."""
+    exit=lambda r:'%s .device'%r
     rf=[n for t,n in params if t in('slice','shr')]; nslice=[p for p in params if p[0]=='slice']
     nl=1+len(rf)                         # lifetimes of f
     lt_of={n:1+i for i,n in enumerate(rf)}
     k=lambda i:'κ%d'%i; q=lambda i:'q%d'%i
-    dash=lambda s:s.replace('_','-')
-    # tuples
-    def tup(xs,end='tt'):
-        s=end
-        for x in reversed(xs): s='(%s, %s)'%(x,s)
-        return s
-    def prod(xs):
-        s='Unit {0}'
-        for x in reversed(xs): s='%s × (%s)'%(x,s) if s!='Unit {0}' else '%s × Unit {0}'%x
-        return s
-    val=[]; arg=[]; argty=[]; vals=[]; fits=[]
-    si=0
-    for t,n in params:
-        if t in('slice','shr'):
-            arg.append('x-%s'%n); argty.append('RefT (List ℕ)'); vals.append('s-%s ∷ []'%n)
-        else:
-            arg.append(n); argty.append('ℕ'); vals.append('vint %s %s ∷ []'%(W[t],n))
     nloc=1+1+len(params)+1+1+2*len(nslice)   # _0, d, params, e, copy, (ref,slice)*
     # local indices
     L_e=2+len(params); L_c=L_e+1
@@ -69,8 +136,8 @@ def gen(fn,by,params,call,uses,struct='Entered',stored=None,make=None,crate='dir
     sl=[n for t,n in params if t=='slice']
     out=[]
     P=out.append
-    P('-- `%s::%s` meets its contract: a walk of its MIR, by hand. The borrow of the device is opened; the device is copied whole into a local and passed to `%s`, of which the proof knows only that it meets its contract; %s.'%(crate,fn,by,'the device that comes back is stored, and the borrow is closed at it' if stored is None else 'the fields that come back are stored one by one, and the borrow is closed at the device with them'))
-    P('-- The slices are passed at their own lifetimes, shares and names, and so given up for good (`gave-slice`): what the callee says of their last lists is what is said at exit.')
+    P('-- `%s::%s` meets its contract: a walk of its MIR, by hand. The borrow of the device is opened; the device is copied whole into a local and passed to `%s`, of which the proof knows only that it meets its contract; %s.'%(crate,fn,by,'the device that comes back is stored, and the borrow is closed at it'))
+    if nslice: P('-- The slices are passed at their own lifetimes, shares and names, and so given up for good (`gave-slice`): what the callee says of their last lists is what is said at exit.')
     P('-- Assumes nothing.')
     P('''use mathlib.Core.Path.{_≡_, refl, ap}
 use Prim.Native.Nat.{ℕ, _<_, _^_}
@@ -121,7 +188,7 @@ use Rattle.rules.proofs.Device.Laws as T′''')
     for u in uses[0]: P(u)
     P('use Rattle.rules.specs.View.{view}')
     C=crate; B=dash(by); F=dash(fn)
-    P(specs(C,uses[1]+([make] if make else [])))
+    P(specs(C,uses[1]))
     P('''use Rattle·%(C)s·specs.specs.declared.%(S)s.{%(S)s}
 use Rattle·%(C)s·proofs.proofs.%(S)s as E
 use Rattle·%(C)s·proofs.proofs.%(S)s.Laws as E′
@@ -145,21 +212,9 @@ use Rattle·%(C)s·proofs.proofs.%(fn)s.Code as code
     P('abbrev By : {M : Type 1} (𝓤 : URA M) (H : Heap 𝓤) (A : Atoms 𝓤) (mem : Memory → SProp 𝓤) (run : Routine → Fun 𝓤) → Contract 𝓤')
     P('By 𝓤 H A mem run = tripleOf 𝓤 H A by′.signature (by′.spec 𝓤 H A mem run)'); P('')
     kk=[k(i) for i in range(nl)]; qq=[q(i) for i in range(nl)]
-    hdr='module _ {M : Type 1} (𝓤 : URA M) (H : Heap 𝓤) (A : Atoms 𝓤) (W : Given 𝓤 H A) (at-mem : Memory → SProp 𝓤) (run : Routine → Fun 𝓤) (%s : Lft) (bounds : AllOutlive %d (f.signature .outlives) %s) (%s : Share) (b o : ℕ) (γ : GName) (h : Device)'%(' '.join(kk),nl,tup(kk),' '.join(qq))
-    for t,n in params:
-        if t in('slice','shr'): hdr+=' (b-%s o-%s : ℕ) (γ-%s : GName) (ys-%s : List ℕ)'%(n,n,n,n)
-        else: hdr+=' (%s : ℕ) (%s-fits : %s < 2 ^ %s)'%(n,n,n,t[1:])
-    P(hdr+' where')
-    for n in rf:
-        P('  abbrev x-%s : RefT (List ℕ)'%n); P('  x-%s = record { ptr = (b-%s, o-%s); name = γ-%s; now = ys-%s }'%(n,n,n,n,n)); P('')
-        P('  abbrev s-%s : Val'%n); P('  s-%s = sliceVal (b-%s, o-%s) (length ys-%s)'%(n,n,n,n)); P('')
-    P('  abbrev Arg : Type 0'); P('  Arg = %s'%prod(['RefT Device']+argty)); P('')
-    P('  abbrev a : Arg'); P('  a = %s'%tup(['record { ptr = (b, o); name = γ; now = h }']+arg)); P('')
-    P('  abbrev Vals : Type 0'); P('  Vals = %s'%prod(['List Val']*(1+len(params)))); P('')
-    P('  abbrev vals : Vals'); P('  vals = %s'%tup(['vptr b o ∷ []']+vals)); P('')
-    P('  -- a device in memory'); P('  abbrev mach : Device → Val'); P('  mach d = LL.tuple-val T.the-type T′.the-laws (T.the-type .to d)'); P('')
-    ghost='((%s, %s, bounds, a, vals), tt)'%(tup(kk),tup(qq))
-    P('  abbrev Post : Val → SProp 𝓤'); P('  Post = walkOf 𝓤 H A f.ended stayed (f.clauses 𝓤 H A at-mem run) .post %s'%ghost); P('')
+    def mach():
+        P('  -- a device in memory'); P('  abbrev mach : Device → Val'); P('  mach d = LL.tuple-val T.the-type T′.the-laws (T.the-type .to d)'); P('')
+    arg,vals,ghost=entry(P,params,rf,kk,qq,mach)
     ks=kk[1:]; qs=qq[1:]
     byargs=tup(['h']+arg)
     P('  -- what the callee\'s triple binds outside: the slices\' own lifetimes, shares and values'); P('  abbrev to-by : By 𝓤 H A at-mem run .Ghost')
@@ -187,11 +242,6 @@ use Rattle·%(C)s·proofs.proofs.%(fn)s.Code as code
     lists=lambda f_: {n:f_(n) for n in sl}
     zsn=['zs-'+n for n in sl]
     P('  abbrev Said : %s → Type 0'%(' → '.join([struct]+['List ℕ']*len(sl)))); P('  Said r %s = %s'%(' '.join(zsn),call('r',exit('r'),{n:'zs-'+n for n in sl}))); P('')
-    if stored is not None:
-        P('  -- what closing the borrow asks: of each field, what the answer says of it, or what was known at entry')
-        P('  made : (r : %s) → Is T.the-row h (mach h ∷ []) → AreAll (fields E.the-type) (E.the-type .to r) (valss (fields E.the-type) (LL.spells (E.the-type .parts) E′.the-laws) (E.the-type .to r)) → Is T.the-row (%s) (mach (%s) ∷ [])'%(struct,exit('r'),exit('r')))
-        P('  made r was is = let h-is = LL.owed T.the-type T′.the-laws h _ was in LL.owes T.the-type T′.the-laws (%s) %s'%(exit('r'),tup(['is'+' .1'*(stored.index(f)+1)+' .0' if f in stored else 'h-is'+' .1'*i+' .0' for i,f in enumerate(FIELDS)])))
-        P('')
     # exits
     ectx='‵ (fobs γ (T.the-row .coded .code (%s))) ∷ ‵ (fbor κ0 (Body (mem T.the-row) b o γ)) ∷ ‵ (flft κ0 q0) ∷ (%s) ∷ %s[]'%(exit('r'),tok,''.join('‵ (finally u8 γ-%s zs-%s) ∷ '%(n,n) for n in sl))
     P('  exits : (r : '+struct+')%s → r .answer < 2 ^ 64 → Said r %s%s'%(' (%s : List ℕ)'%' '.join(zsn) if sl else '',' '.join(zsn),''.join(' → length zs-%s ≡ length ys-%s'%(n,n) for n in sl)))
@@ -300,16 +350,12 @@ use Rattle·%(C)s·proofs.proofs.%(fn)s.Code as code
     P('        land ! (from ! (stop !)) (init ! %d refl (LL.lawful E.the-type E′.the-laws 𝓤 H A W .typed r _ is .0)) $ rewrite ! %d (λ (z : Val). ‵ (fat fullShare E′.mir l%d 0 z)) (ap only (LL.tells E.the-type E′.the-laws r _ is)) refl $'%(pos(L_e,o),pos(L_e,o),L_e))
     ci=st.index('cell')
     owed=lambda i: 'LL.owed E.the-type E′.the-laws r _ is'+' .1'*i+' .0'
-    if stored is None:
-        P('        assigns ! (of-opd ! (load ! (from ! (fld ! refl (stop !))) (look-in ! %d (sub ! 1 refl (whole !))))) (from ! (hop ! (look ! %d refl) (stop !))) (store ! %d refl (LL.lawful T.the-type T′.the-laws 𝓤 H A W .typed (r .device) _ (LL.owed E.the-type E′.the-laws r _ is .1 .0) .0)) $'%(pos(L_e,o),pos(1,o),ci))
-    else:
-        for i,f in enumerate(stored):
-            P('        assigns ! (of-opd ! (load ! (from ! (fld ! refl (stop !))) (look-in ! %d (sub ! %d refl (whole !))))) (from ! (hop ! (look ! %d refl) (fld ! refl (stop !)))) (store-in ! %d (sub ! %d refl (whole !)) (E′.the-laws%s .0 .lawful 𝓤 H A W .typed (E.the-type .to r%s .0) _ (%s) .0)) $'%(pos(L_e,o),i+1,pos(1,o),ci,FIELDS.index(f),' .1'*(i+1),' .1'*(i+1),owed(i+1)))
+    P('        assigns ! (of-opd ! (load ! (from ! (fld ! refl (stop !))) (look-in ! %d (sub ! 1 refl (whole !))))) (from ! (hop ! (look ! %d refl) (stop !))) (store ! %d refl (LL.lawful T.the-type T′.the-laws 𝓤 H A W .typed (r .device) _ (LL.owed E.the-type E′.the-laws r _ is .1 .0) .0)) $'%(pos(L_e,o),pos(1,o),ci))
     P('        assigns ! (of-opd ! (load ! (from ! (fld ! refl (stop !))) (look-in ! %d (sub ! 0 refl (whole !))))) (from ! (stop !)) (init ! %d refl (tt, record { fits = LL.owed E.the-type E′.the-laws r _ is .0 .1 })) $'%(pos(L_e,o),pos(0,o)))
     P('        -- the borrow is closed at the new device')
     st=['ownd']+st
     order=['cell','ownd','open','obs','auth']
-    x=exit('r'); m=owed(1) if stored is None else 'made r g (%s)'%'LL.owed E.the-type E′.the-laws r _ is'
+    x=exit('r'); m=owed(1)
     P('        owned ! T.the-row (Is T.the-row) ((LL.makes T.the-type T′.the-plain) 𝓤 H A) (%s) _ (%s) $ move ! (%s ∷ []) $ use1 W (‵ (cellAt fullShare (T.the-row .mir) (mach (%s) ∷ []) b o)) (W .laws .at-raw fullShare T′.mir b o (mach (%s))) $ closes ! tt T.the-row (%s) (mach (%s) ∷ []) b o $'%(x,m,' ∷ '.join(str(st.index(x)) for x in order),x,x,x,x))
     st=['obs','bor','lft']+[x for x in st if x not in order]; o=len(st)
     P('        returns ! (look ! %d refl) $ %s $'%(pos(0,o),' $ '.join('forget ! %d refl'%pos(i,o) for i in range(nloc-1,-1,-1))))
@@ -318,46 +364,8 @@ use Rattle·%(C)s·proofs.proofs.%(fn)s.Code as code
     close=nloc+2+1+1+1+1+nl_+1
     P('        keep ! (%s ∷ []) $ by ! (exits r %s (LL.owed E.the-type E′.the-laws r _ is .0 .1) e %s)'%(' ∷ '.join(str(st.index(x)) for x in kp),zargs,' '.join('l-'+n for n in sl))+')'*close)
     P('')
-    P('module _ {M : Type 1} (𝓤 : URA M) (H : Heap 𝓤) (A : Atoms 𝓤) (W : Given 𝓤 H A) (mem : Memory → SProp 𝓤) (run : Routine → Fun 𝓤) where')
-    P('  walks : (C : Calls 𝓤 H) (Λ : Loops 𝓤 H) → FmC 𝓤 H (W .laws) C → Triple 𝓤 (C #by) (By 𝓤 H A mem run) → Walks 𝓤 H A f.ended stayed (WpFn 𝓤 H C Λ code.function) (f.clauses 𝓤 H A mem run)')
-    def kpath(i): return 'κs'+' .1'*i+' .0'
-    def qpath(i): return 'qs'+' .1'*i+' .0'
-    vv=['ptr-vals']; tt_=['mut-tells (named 0) (κs .0) T.the-row']; si=0
-    for t,n in params:
-        if t in('slice','shr'): vv.append('slice-vals'); tt_.append('%s-slice-tells (named %d) (%s) u8'%({'slice':'mut','shr':'shr'}[t],lt_of[n],kpath(lt_of[n])))
-        else: vv.append('uint-vals '+W[t]); tt_.append('uint-tells '+W[t])
-    P('  walks C Λ fm known = walked 𝓤 H A f.ended stayed (f.clauses 𝓤 H A mem run) (WpFn 𝓤 H C Λ code.function)')
-    P('      (λ κs. %s) (λ κs. %s)'%(tup(vv),tup(tt_)))
-    wa=['(%s)'%kpath(i) for i in range(nl)]+['bounds']+['(%s)'%qpath(i) for i in range(nl)]+['(a .0 .ptr .0)','(a .0 .ptr .1)','(a .0 .name)','(a .0 .now)']
-    rm=[]
-    for i,(t,n) in enumerate(params):
-        p='a'+' .1'*(i+1)+' .0'; ar='are'+' .1'*(i+1)+' .0'
-        if t in('slice','shr'): wa+=['(%s .ptr .0)'%p,'(%s .ptr .1)'%p,'(%s .name)'%p,'(%s .now)'%p]; rm.append('(%s .0 .1)'%ar)
-        else: wa+=['(%s)'%p,'(%s .1)'%ar]
-    P('      (λ κs qs bounds a _ are. via 𝓤 _ (fst∗ 𝓤 _ (emp 𝓤)) (walk 𝓤 H A W mem run %s C Λ fm known %s))'%(' '.join(wa),' '.join(rm)))
-    P('')
-    P('meets : {M : Type 1} (𝓤 : URA M) (H : Heap 𝓤) (A : Atoms 𝓤) → Given 𝓤 H A → (mem : Memory → SProp 𝓤) (run : Routine → Fun 𝓤) (𝓣 : Tables 𝓤 H) → Triple 𝓤 (𝓣 .C #by) (By 𝓤 H A mem run)')
-    P('    → Meets 𝓤 H A f.signature (WpFn 𝓤 H (𝓣 .C) (𝓣 .Λ) code.function) (f.spec 𝓤 H A mem run)')
-    g=['goes-ref 𝓤 H A W %d 0 tt (plain (λ _. T.the-row))'%nl]; si=0
-    for t,n in params:
-        if t=='slice': g.append('goes-gave-slice 𝓤 H A W %d %d tt (plain (λ _. u8))'%(nl,lt_of[n]))
-        elif t=='shr': g.append('goes-dropped 𝓤 H A W %d (shrSliceOf (%d ∷ []) tt (plain (λ _. u8))) yes (λ κs x f. refl)'%(nl,lt_of[n]))
-        else: g.append('goes-none 𝓤 H A W %d (λ _. %s) yes (λ κs x f. refl)'%(nl,t))
-    P('meets 𝓤 H A W mem run 𝓣 known =')
-    P('    walk-meets 𝓤 H A f.ended stayed W %s (f.clauses 𝓤 H A mem run)'%tup(g))
-    P('    (WpFn 𝓤 H (𝓣 .C) (𝓣 .Λ) code.function) (WpFn-mono 𝓤 H (W .laws) 𝓣 code.function) (walks 𝓤 H A W mem run (𝓣 .C) (𝓣 .Λ) (fmOf 𝓤 H (W .laws) 𝓣) known)'); P('')
-    P('''pub %(F)s-spec : {M : Type 1} → stated.statement M
-unfolding code.routine tablesOf
-%(F)s-spec 𝓤 H 𝓜 𝓖 𝓡 =
-    entered 𝓤 H (tripleOf 𝓤 H (𝓖 .A) f.signature (f.spec 𝓤 H (𝓖 .A) (𝓜 .mem) (𝓡 .run)))
-    (tables 𝓤 H 𝓜 𝓡 code.env .C) (tables 𝓤 H 𝓜 𝓡 code.env .Λ) #f code.function (code.unfolded 𝓤 H 𝓜 𝓡)
-    (meets 𝓤 H (𝓖 .A) (givenOf 𝓤 H 𝓜 𝓖) (𝓜 .mem) (𝓡 .run) (tablesOf 𝓤 H 𝓜 (tables 𝓤 H 𝓜 𝓡 code.env))
-    (cited 𝓤 H (By 𝓤 H (𝓖 .A) (𝓜 .mem) (𝓡 .run)) 𝓜 𝓡 code.env #by by-def.routine code.calls-%(C)s·%(B)s (by-thm.met 𝓤 H 𝓜 𝓖 𝓡)))'''%dict(F=F,C=C,B=B))
+    tail(P,fn,by,params,lt_of,nl,'mut-tells (named 0) (κs .0) T.the-row','goes-ref 𝓤 H A W %d 0 tt (plain (λ _. T.the-row))'%nl,crate)
     text='\n'.join(out)+'\n'
-    if not any(t=='shr' for t,_ in params):
-        for w in ['ShrSlice, ','shr-slice-tells','shrSliceOf','stay-dropped, ','goes-dropped, ']:
-            text=text.replace(', '+w if w[-2:]!=', ' else w,'',1)
-    if not rf: text=text.replace('\nuse denote.Slice.{sliceVal, MutSlice, Room, finally, slice-vals, mut-slice-tells}','')
     return tidy(text)
 
 SHR_USES='''use mathlib.Core.Path.{_≡_, refl}
@@ -408,17 +416,7 @@ def gen_shr(fn,by,params,call,uses,crate='direct'):
     """fn F(d: &Device, PARAMS) -> u64 { BY(*d, PARAMS) }, of which BY answers a number."""
     sl=[n for t,n in params if t=='slice']; nl=1+len(sl); lt_of={n:1+i for i,n in enumerate(sl)}
     kk=['κ%d'%i for i in range(nl)]; qq=['q%d'%i for i in range(nl)]; ks=kk[1:]; qs=qq[1:]
-    dash=lambda x:x.replace('_','-'); B=dash(by); F=dash(fn); C=crate
-    def tup(xs,end='tt'):
-        r=end
-        for x in reversed(xs): r='(%s, %s)'%(x,r)
-        return r
-    def prod(xs):
-        r='Unit {0}'
-        for x in reversed(xs): r='%s × (%s)'%(x,r) if r!='Unit {0}' else '%s × Unit {0}'%x
-        return r
-    arg=['x-'+n if t=='slice' else n for t,n in params]; argty=['RefT (List ℕ)' if t=='slice' else 'ℕ' for t,n in params]
-    vals=['s-%s ∷ []'%n if t=='slice' else 'vint %s %s ∷ []'%(W[t],n) for t,n in params]
+    B=dash(by); F=dash(fn); C=crate
     nloc=1+1+len(params)+1+2*len(sl); L_c=2+len(params)          # _0, d, params, the copy, (reference, slice)*
     L_ref=[L_c+1+2*i for i in range(len(sl))]; L_sl=[L_c+2+2*i for i in range(len(sl))]
     pos=lambda i,off: off+2*(nloc-1-i)
@@ -443,19 +441,9 @@ use Rattle·%(C)s·proofs.proofs.%(fn)s.Code as code
     P('-- the contract that the proof cites')
     P('abbrev By : {M : Type 1} (𝓤 : URA M) (H : Heap 𝓤) (A : Atoms 𝓤) (mem : Memory → SProp 𝓤) (run : Routine → Fun 𝓤) → Contract 𝓤')
     P('By 𝓤 H A mem run = tripleOf 𝓤 H A by′.signature (by′.spec 𝓤 H A mem run)'); P('')
-    hdr='module _ {M : Type 1} (𝓤 : URA M) (H : Heap 𝓤) (A : Atoms 𝓤) (W : Given 𝓤 H A) (at-mem : Memory → SProp 𝓤) (run : Routine → Fun 𝓤) (%s : Lft) (bounds : AllOutlive %d (f.signature .outlives) %s) (%s : Share) (b o : ℕ) (γ : GName) (h : Device)'%(' '.join(kk),nl,tup(kk),' '.join(qq))
-    for t,n in params: hdr+=' (b-%s o-%s : ℕ) (γ-%s : GName) (ys-%s : List ℕ)'%(n,n,n,n) if t=='slice' else ' (%s : ℕ) (%s-fits : %s < 2 ^ %s)'%(n,n,n,t[1:])
-    P(hdr+' where')
-    for n in sl:
-        P('  abbrev x-%s : RefT (List ℕ)'%n); P('  x-%s = record { ptr = (b-%s, o-%s); name = γ-%s; now = ys-%s }'%(n,n,n,n,n)); P('')
-        P('  abbrev s-%s : Val'%n); P('  s-%s = sliceVal (b-%s, o-%s) (length ys-%s)'%(n,n,n,n)); P('')
-    P('  abbrev Arg : Type 0'); P('  Arg = %s'%prod(['RefT Device']+argty)); P('')
-    P('  abbrev a : Arg'); P('  a = %s'%tup(['record { ptr = (b, o); name = γ; now = h }']+arg)); P('')
-    P('  abbrev Vals : Type 0'); P('  Vals = %s'%prod(['List Val']*(1+len(params)))); P('')
-    P('  abbrev vals : Vals'); P('  vals = %s'%tup(['vptr b o ∷ []']+vals)); P('')
-    P('  -- the device in memory'); P('  abbrev mach : Val'); P('  mach = LL.tuple-val T.the-type T′.the-laws (T.the-type .to h)'); P('')
-    ghost='((%s, %s, bounds, a, vals), tt)'%(tup(kk),tup(qq))
-    P('  abbrev Post : Val → SProp 𝓤'); P('  Post = walkOf 𝓤 H A f.ended stayed (f.clauses 𝓤 H A at-mem run) .post %s'%ghost); P('')
+    def mach():
+        P('  -- the device in memory'); P('  abbrev mach : Val'); P('  mach = LL.tuple-val T.the-type T′.the-laws (T.the-type .to h)'); P('')
+    arg,vals,ghost=entry(P,params,sl,kk,qq,mach)
     byargs=tup(['h']+arg)
     P('  -- what the callee\'s triple binds outside: the slices\' own lifetimes, shares and values'); P('  abbrev to-by : By 𝓤 H A at-mem run .Ghost')
     P('  to-by = ((%s, %s, tt, %s, %s), tt)'%(tup(ks),tup(qs),byargs,tup(['mach ∷ []']+vals))); P('')
@@ -544,33 +532,8 @@ use Rattle·%(C)s·proofs.proofs.%(fn)s.Code as code
     kp=['res','bor','tok0','tok','own']+['fin-'+n for n in sl]
     P('        keep ! (%s ∷ []) $ by ! (exits r v%s e%s)'%(' ∷ '.join(str(st.index(x)) for x in kp),zargs,''.join(' l-'+n for n in sl))+')'*(nloc+2+1+1+1+1+len(sl)+1))
     P('')
-    P('module _ {M : Type 1} (𝓤 : URA M) (H : Heap 𝓤) (A : Atoms 𝓤) (W : Given 𝓤 H A) (mem : Memory → SProp 𝓤) (run : Routine → Fun 𝓤) where')
-    P('  walks : (C : Calls 𝓤 H) (Λ : Loops 𝓤 H) → FmC 𝓤 H (W .laws) C → Triple 𝓤 (C #by) (By 𝓤 H A mem run) → Walks 𝓤 H A f.ended stayed (WpFn 𝓤 H C Λ code.function) (f.clauses 𝓤 H A mem run)')
-    kpath=lambda i:'κs'+' .1'*i+' .0'; qpath=lambda i:'qs'+' .1'*i+' .0'
-    vv=['ptr-vals']+['slice-vals' if t=='slice' else 'uint-vals '+W[t] for t,n in params]
-    tt_=['shr-tells (named 0) (κs .0) T.the-row']+['mut-slice-tells (named %d) (%s) u8'%(lt_of[n],kpath(lt_of[n])) if t=='slice' else 'uint-tells '+W[t] for t,n in params]
-    P('  walks C Λ fm known = walked 𝓤 H A f.ended stayed (f.clauses 𝓤 H A mem run) (WpFn 𝓤 H C Λ code.function)')
-    P('      (λ κs. %s) (λ κs. %s)'%(tup(vv),tup(tt_)))
-    wa=['(%s)'%kpath(i) for i in range(nl)]+['bounds']+['(%s)'%qpath(i) for i in range(nl)]+['(a .0 .ptr .0)','(a .0 .ptr .1)','(a .0 .name)','(a .0 .now)']; rm=[]
-    for i,(t,n) in enumerate(params):
-        p='a'+' .1'*(i+1)+' .0'; ar='are'+' .1'*(i+1)+' .0'
-        if t=='slice': wa+=['(%s .ptr .0)'%p,'(%s .ptr .1)'%p,'(%s .name)'%p,'(%s .now)'%p]; rm.append(' (%s .0 .1)'%ar)
-        else: wa+=['(%s)'%p,'(%s .1)'%ar]
-    P('      (λ κs qs bounds a _ are. via 𝓤 _ (fst∗ 𝓤 _ (emp 𝓤)) (walk 𝓤 H A W mem run %s C Λ fm known%s))'%(' '.join(wa),''.join(rm))); P('')
-    P('meets : {M : Type 1} (𝓤 : URA M) (H : Heap 𝓤) (A : Atoms 𝓤) → Given 𝓤 H A → (mem : Memory → SProp 𝓤) (run : Routine → Fun 𝓤) (𝓣 : Tables 𝓤 H) → Triple 𝓤 (𝓣 .C #by) (By 𝓤 H A mem run)')
-    P('    → Meets 𝓤 H A f.signature (WpFn 𝓤 H (𝓣 .C) (𝓣 .Λ) code.function) (f.spec 𝓤 H A mem run)')
-    g=['goes-none-ref 𝓤 H A W %d (0 ∷ []) tt (plain (λ _. T.the-row)) yes'%nl]+['goes-gave-slice 𝓤 H A W %d %d tt (plain (λ _. u8))'%(nl,lt_of[n]) if t=='slice' else 'goes-none 𝓤 H A W %d (λ _. %s) yes (λ κs x f. refl)'%(nl,t) for t,n in params]
-    P('meets 𝓤 H A W mem run 𝓣 known =')
-    P('    walk-meets 𝓤 H A f.ended stayed W %s (f.clauses 𝓤 H A mem run)'%tup(g))
-    P('    (WpFn 𝓤 H (𝓣 .C) (𝓣 .Λ) code.function) (WpFn-mono 𝓤 H (W .laws) 𝓣 code.function) (walks 𝓤 H A W mem run (𝓣 .C) (𝓣 .Λ) (fmOf 𝓤 H (W .laws) 𝓣) known)'); P('')
-    P('''pub %(F)s-spec : {M : Type 1} → stated.statement M
-unfolding code.routine tablesOf
-%(F)s-spec 𝓤 H 𝓜 𝓖 𝓡 =
-    entered 𝓤 H (tripleOf 𝓤 H (𝓖 .A) f.signature (f.spec 𝓤 H (𝓖 .A) (𝓜 .mem) (𝓡 .run)))
-    (tables 𝓤 H 𝓜 𝓡 code.env .C) (tables 𝓤 H 𝓜 𝓡 code.env .Λ) #f code.function (code.unfolded 𝓤 H 𝓜 𝓡)
-    (meets 𝓤 H (𝓖 .A) (givenOf 𝓤 H 𝓜 𝓖) (𝓜 .mem) (𝓡 .run) (tablesOf 𝓤 H 𝓜 (tables 𝓤 H 𝓜 𝓡 code.env))
-    (cited 𝓤 H (By 𝓤 H (𝓖 .A) (𝓜 .mem) (𝓡 .run)) 𝓜 𝓡 code.env #by by-def.routine code.calls-%(C)s·%(B)s (by-thm.met 𝓤 H 𝓜 𝓖 𝓡)))'''%dict(F=F,C=C,B=B))
-    return '\n'.join(out)+'\n'
+    tail(P,fn,by,params,lt_of,nl,'shr-tells (named 0) (κs .0) T.the-row','goes-none-ref 𝓤 H A W %d (0 ∷ []) tt (plain (λ _. T.the-row)) yes'%nl,crate)
+    return tidy('\n'.join(out)+'\n')
 
 # a device's arrays that can be lent: their row, and their place
 LENDS={'table':('u8',2048,72),'busy':('u64',64,2120),'majors':('u64',64,2632),'taken':('u64',192,3144),'pending':('u32',64,4680)}
@@ -604,15 +567,6 @@ def gen_lent(fn,by,params,lent,said,uses,fed=True,crate='direct'):
     """fn F(d: &mut Device, PARAMS) -> u64 { let k = Core { .. }; let e = BY(k, .., &mut d.FIELD, ..); d.scalars = e.scalars; d.controllers = e.controllers; e.answer }
     lent: the fields lent. BY's parameters are the core, PARAMS and the fields, which stand behind the numbers and the window. said: what BY says, of an answer, the last
     lists of the fields and of the slices; and what the entry says. Where not fed, BY answers a number and nothing is stored."""
-    def tup(xs,end='tt'):
-        s=end
-        for x in reversed(xs): s='(%s, %s)'%(x,s)
-        return s
-    def prod(xs):
-        s='Unit {0}'
-        for x in reversed(xs): s='%s × (%s)'%(x,s) if s!='Unit {0}' else '%s × Unit {0}'%x
-        return s
-    dash=lambda s:s.replace('_','-')
     C=crate; B=dash(by); F=dash(fn)
     sl=[n for t,n in params if t=='slice']
     lt_of={n:1+i for i,n in enumerate(sl)}; nl=1+len(sl)
@@ -713,25 +667,7 @@ use Rattle·%(C)s·proofs.proofs.%(fn)s.Code as code
     P('abbrev By : {M : Type 1} (𝓤 : URA M) (H : Heap 𝓤) (A : Atoms 𝓤) (mem : Memory → SProp 𝓤) (run : Routine → Fun 𝓤) → Contract 𝓤')
     P('By 𝓤 H A mem run = tripleOf 𝓤 H A by′.signature (by′.spec 𝓤 H A mem run)'); P('')
     kk=['κ%d'%i for i in range(nl)]; qq=['q%d'%i for i in range(nl)]
-    hdr='module _ {M : Type 1} (𝓤 : URA M) (H : Heap 𝓤) (A : Atoms 𝓤) (W : Given 𝓤 H A) (at-mem : Memory → SProp 𝓤) (run : Routine → Fun 𝓤) (%s : Lft) (bounds : AllOutlive %d (f.signature .outlives) %s) (%s : Share) (b o : ℕ) (γ : GName) (h : Device)'%(' '.join(kk),nl,tup(kk),' '.join(qq))
-    arg=[]; argty=[]; vals=[]
-    for t,n in params:
-        if t=='slice':
-            hdr+=' (b-%s o-%s : ℕ) (γ-%s : GName) (ys-%s : List ℕ)'%(n,n,n,n)
-            arg.append('x-%s'%n); argty.append('RefT (List ℕ)'); vals.append('s-%s ∷ []'%n)
-        else:
-            hdr+=' (%s : ℕ) (%s-fits : %s < 2 ^ %s)'%(n,n,n,t[1:])
-            arg.append(n); argty.append('ℕ'); vals.append('vint %s %s ∷ []'%(W[t],n))
-    P(hdr+' where')
-    for n in sl:
-        P('  abbrev x-%s : RefT (List ℕ)'%n); P('  x-%s = record { ptr = (b-%s, o-%s); name = γ-%s; now = ys-%s }'%(n,n,n,n,n)); P('')
-        P('  abbrev s-%s : Val'%n); P('  s-%s = sliceVal (b-%s, o-%s) (length ys-%s)'%(n,n,n,n)); P('')
-    P('  abbrev Arg : Type 0'); P('  Arg = %s'%prod(['RefT Device']+argty)); P('')
-    P('  abbrev a : Arg'); P('  a = %s'%tup(['record { ptr = (b, o); name = γ; now = h }']+arg)); P('')
-    P('  abbrev Vals : Type 0'); P('  Vals = %s'%prod(['List Val']*(1+len(params)))); P('')
-    P('  abbrev vals : Vals'); P('  vals = %s'%tup(['vptr b o ∷ []']+vals)); P('')
-    ghost='((%s, %s, bounds, a, vals), tt)'%(tup(kk),tup(qq))
-    P('  abbrev Post : Val → SProp 𝓤'); P('  Post = walkOf 𝓤 H A f.ended stayed (f.clauses 𝓤 H A at-mem run) .post %s'%ghost); P('')
+    arg,vals,ghost=entry(P,params,sl,kk,qq)
     P('  -- its core')
     P('  abbrev k : Core'); P('  k = record { scalars = h .scalars; controllers = h .controllers; «ignore_masks» = h .«ignore_masks» }'); P('')
     P('  abbrev mach-k : Val'); P('  mach-k = LL.tuple-val K.the-type K′.the-laws (K.the-type .to k)'); P('')
@@ -924,32 +860,7 @@ use Rattle·%(C)s·proofs.proofs.%(fn)s.Code as code
     kp=['obs','bor','tok0','tok']+['fin-'+n for n in sl]
     P('        keep ! (%s ∷ []) $ by ! (exits r %s %s (%s) %s)'%(' ∷ '.join(str(c.at(x)) for x in kp),zall,fits,said('taken','e',None,None,None),' '.join('l-'+n for n in sl))+')'*close)
     P('')
-    P('module _ {M : Type 1} (𝓤 : URA M) (H : Heap 𝓤) (A : Atoms 𝓤) (W : Given 𝓤 H A) (mem : Memory → SProp 𝓤) (run : Routine → Fun 𝓤) where')
-    P('  walks : (C : Calls 𝓤 H) (Λ : Loops 𝓤 H) → FmC 𝓤 H (W .laws) C → Triple 𝓤 (C #by) (By 𝓤 H A mem run) → Walks 𝓤 H A f.ended stayed (WpFn 𝓤 H C Λ code.function) (f.clauses 𝓤 H A mem run)')
-    kpath=lambda i:'κs'+' .1'*i+' .0'; qpath=lambda i:'qs'+' .1'*i+' .0'
-    vv=['ptr-vals']+['slice-vals' if t=='slice' else 'uint-vals '+W[t] for t,n in params]
-    tt_=['mut-tells (named 0) (κs .0) T.the-row']+['mut-slice-tells (named %d) (%s) u8'%(lt_of[n],kpath(lt_of[n])) if t=='slice' else 'uint-tells '+W[t] for t,n in params]
-    P('  walks C Λ fm known = walked 𝓤 H A f.ended stayed (f.clauses 𝓤 H A mem run) (WpFn 𝓤 H C Λ code.function)')
-    P('      (λ κs. %s) (λ κs. %s)'%(tup(vv),tup(tt_)))
-    wa=['(%s)'%kpath(i) for i in range(nl)]+['bounds']+['(%s)'%qpath(i) for i in range(nl)]+['(a .0 .ptr .0)','(a .0 .ptr .1)','(a .0 .name)','(a .0 .now)']; rm=[]
-    for i,(t,n) in enumerate(params):
-        p='a'+' .1'*(i+1)+' .0'; ar='are'+' .1'*(i+1)+' .0'
-        if t=='slice': wa+=['(%s .ptr .0)'%p,'(%s .ptr .1)'%p,'(%s .name)'%p,'(%s .now)'%p]; rm.append(' (%s .0 .1)'%ar)
-        else: wa+=['(%s)'%p,'(%s .1)'%ar]
-    P('      (λ κs qs bounds a _ are. via 𝓤 _ (fst∗ 𝓤 _ (emp 𝓤)) (walk 𝓤 H A W mem run %s C Λ fm known%s))'%(' '.join(wa),''.join(rm))); P('')
-    P('meets : {M : Type 1} (𝓤 : URA M) (H : Heap 𝓤) (A : Atoms 𝓤) → Given 𝓤 H A → (mem : Memory → SProp 𝓤) (run : Routine → Fun 𝓤) (𝓣 : Tables 𝓤 H) → Triple 𝓤 (𝓣 .C #by) (By 𝓤 H A mem run)')
-    P('    → Meets 𝓤 H A f.signature (WpFn 𝓤 H (𝓣 .C) (𝓣 .Λ) code.function) (f.spec 𝓤 H A mem run)')
-    g=['goes-ref 𝓤 H A W %d 0 tt (plain (λ _. T.the-row))'%nl]+['goes-gave-slice 𝓤 H A W %d %d tt (plain (λ _. u8))'%(nl,lt_of[n]) if t=='slice' else 'goes-none 𝓤 H A W %d (λ _. %s) yes (λ κs x f. refl)'%(nl,t) for t,n in params]
-    P('meets 𝓤 H A W mem run 𝓣 known =')
-    P('    walk-meets 𝓤 H A f.ended stayed W %s (f.clauses 𝓤 H A mem run)'%tup(g))
-    P('    (WpFn 𝓤 H (𝓣 .C) (𝓣 .Λ) code.function) (WpFn-mono 𝓤 H (W .laws) 𝓣 code.function) (walks 𝓤 H A W mem run (𝓣 .C) (𝓣 .Λ) (fmOf 𝓤 H (W .laws) 𝓣) known)'); P('')
-    P('''pub %(F)s-spec : {M : Type 1} → stated.statement M
-unfolding code.routine tablesOf
-%(F)s-spec 𝓤 H 𝓜 𝓖 𝓡 =
-    entered 𝓤 H (tripleOf 𝓤 H (𝓖 .A) f.signature (f.spec 𝓤 H (𝓖 .A) (𝓜 .mem) (𝓡 .run)))
-    (tables 𝓤 H 𝓜 𝓡 code.env .C) (tables 𝓤 H 𝓜 𝓡 code.env .Λ) #f code.function (code.unfolded 𝓤 H 𝓜 𝓡)
-    (meets 𝓤 H (𝓖 .A) (givenOf 𝓤 H 𝓜 𝓖) (𝓜 .mem) (𝓡 .run) (tablesOf 𝓤 H 𝓜 (tables 𝓤 H 𝓜 𝓡 code.env))
-    (cited 𝓤 H (By 𝓤 H (𝓖 .A) (𝓜 .mem) (𝓡 .run)) 𝓜 𝓡 code.env #by by-def.routine code.calls-%(C)s·%(B)s (by-thm.met 𝓤 H 𝓜 𝓖 𝓡)))'''%dict(F=F,C=C,B=B))
+    tail(P,fn,by,params,lt_of,nl,'mut-tells (named 0) (κs .0) T.the-row','goes-ref 𝓤 H A W %d 0 tt (plain (λ _. T.the-row))'%nl,crate)
     return tidy('\n'.join(out)+'\n')
 
 CALLS='use Rattle.rules.specs.Calls.{%s}'
