@@ -1,7 +1,7 @@
 // Entries for C and Rust over a device that the caller holds in memory: a register access or a run costs its own work, and no packing.
-// Each takes the device behind a reference, makes the call on the fields that it concerns, by value, and stores those that it can change; its
-// contract is that of the call. A function over a reference to a struct is proved by a walk by hand: so each of these is one call, some stores and
-// one number.
+// Each takes the device behind a reference. An act copies its core, is lent those of its arrays that it reads or changes, where they lie, and stores
+// numbers and controllers when it comes back; the others copy the device. The contract is that of the call. A function over a reference to a struct is
+// proved by a walk by hand: so each of these is one call, some stores and one number.
 use act::Core;
 use act::Done;
 use rules::Acted;
@@ -44,6 +44,7 @@ fn answered(a: Acted) -> Entered
     }
 }
 
+// What an act came to besides arrays, its answer in one number.
 fn handed_back(r: Done) -> Fed
     ensures { λ f. ⌜ (f .answer ≡ packed (verdictNumber (r .verdict)) 0 0 (r .used)) × (f .scalars ≡ r .core .scalars) × (f .controllers ≡ r .core .controllers) ⌝ }
 {
