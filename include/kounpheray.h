@@ -45,7 +45,7 @@ extern "C" {
 #define KP_CONTROLLER(n) (0xFC048000u + 0x4000u * (n)) /* n: 0, 1 or 2 */
 
 /* The status in an answer: 0 where the call was accepted, else a refusal.
- * Refusals 1 to 8 are looked for first, in this order. */
+ * Refusals 1 to 8 are looked for first, in this order, then 14. */
 enum kp_status {
     KP_ACCEPTED = 0,
     KP_SIZE = 1,           /* size is not 1, 2 or 4 */
@@ -61,6 +61,7 @@ enum kp_status {
     KP_JOURNAL_FULL = 11,  /* the next record doesn't fit */
     KP_NOTHING = 12,       /* take back with used length 0 */
     KP_DAMAGED = 13,       /* take back: the last group is damaged */
+    KP_PENDING_COUNT = 14, /* the sum of pending counts would pass 2^32 - 1 */
     KP_NOT_A_DEVICE = 255  /* the image is not a device; looked for before all */
 };
 
@@ -145,13 +146,19 @@ uint64_t kp_device_write(struct kp_device *device, uint32_t address, uint32_t si
                          uint32_t value, uint8_t *journal, size_t journal_len, uint64_t used);
 
 /* Puts the standing requests (one bit for each channel) and the lines of the
- * three controllers; lines that the DMA drives stay as they are. Requesting
- * channels with their ERQ bit set then have work waiting. */
+ * three controllers. They take the place of all that were given before: lines
+ * that are to stay up are given again (device->controllers[n].lines holds
+ * them). Lines that the DMA drives stay as they are, whatever is given.
+ * Requesting channels with their ERQ bit set then have work waiting. */
 uint64_t kp_device_inputs(struct kp_device *device, uint64_t standing, uint64_t lines0,
                           uint64_t lines1, uint64_t lines2, uint8_t *journal, size_t journal_len,
                           uint64_t used);
 
-/* Stores a pending count for one channel. */
+/* Adds to the requests that a channel has pending; one is spent for each pass.
+ * 14, and nothing is changed, where the sum would pass 2^32 - 1. This alone
+ * gives no channel work, since it sets no KICK bit: a run that follows at once
+ * moves nothing. For frames that have come, call this, then kp_device_inputs
+ * with the masks last given, then kp_device_run. */
 uint64_t kp_device_pending(struct kp_device *device, uint32_t channel, uint32_t count,
                            uint8_t *journal, size_t journal_len, uint64_t used);
 

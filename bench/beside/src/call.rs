@@ -1,6 +1,7 @@
-//! The calls, and the refusals that can be told from the arguments alone.
+//! The calls, and the refusals that can be told before anything is done.
 
-use kounpheray::Time;
+use crate::recorded::place;
+use kounpheray::{Channel, Field, Time};
 
 /// A call of the engine with its arguments.
 #[derive(Clone, Copy, Debug, PartialEq, Eq)]
@@ -90,5 +91,16 @@ impl Call {
             Call::TakeBack if used == 0 => Some(12),
             _ => None,
         }
+    }
+
+    /// The refusal that comes next, for what a device's image holds: 14, if
+    /// the sum passes 2^32 - 1.
+    pub fn barred(self, image: &[u8]) -> Option<u8> {
+        let Call::Pending { channel, count } = self else {
+            return None;
+        };
+        let at = place(Field::Pending(Channel::new(channel as u8)));
+        let stands = image[at..at + 8].iter().fold(0, |value, byte| value << 8 | u64::from(*byte));
+        (stands + u64::from(count) > u64::from(u32::MAX)).then_some(14)
     }
 }

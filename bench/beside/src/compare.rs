@@ -81,8 +81,7 @@ impl Beside {
             self.tally.apart(format!("{why:?}"));
             return self.world.checked(call);
         }
-        let World { base, window, journal, used, .. } = &self.world;
-        if let Some(number) = call.early(*base, window.len(), journal.len(), *used) {
+        if let Some(number) = self.world.early(call) {
             let answer = self.world.checked(call)?;
             self.tally.apart(format!("refusal {number}, which the Rust does not know"));
             return expect(call, answer.status() == number, "status", answer.status(), number)

@@ -1,5 +1,5 @@
-//! Document 01's own cases as a list: what they tell is written down here, from
-//! the document, and asked of no engine.
+//! The documents' own cases as a list: what they tell is written down here, from
+//! the documents, and asked of no engine.
 
 use crate::call::Call;
 use crate::lab::{AT_ONCE, BASE};
@@ -11,7 +11,7 @@ use kounpheray::{Channel, Controller, Field, Source, Tcd, CR_EMLM, RECORD, TCD};
 use Controller::{One, Two, Zero};
 
 const HEAD: &str = "\
-# Document 01's own cases, written by
+# The documents' own cases, written by
 # `cargo run --release -p beside --bin document`.
 ";
 
@@ -150,6 +150,15 @@ impl List {
     fn put_refused(&mut self, (address, size, value): (u32, u32, u32), status: u8, reads: u8) {
         self.refused(Call::Write { address, size, value }, status);
         self.see(address, size, Err(reads));
+    }
+
+    /// A pending call, and the channel's count after it.
+    fn pending(&mut self, channel: u32, count: u32, added: u64, stands: u32) {
+        let field = Field::Pending(Channel::new(channel as u8));
+        let changes = [To(field, stands.into())];
+        let call = Call::Pending { channel, count };
+        let changes = if count == 0 { &[] } else { &changes[..] };
+        self.accepted(call, Answered::default(), added, changes);
     }
 
     fn acknowledge(&mut self, ipl: u8, found: Option<(u8, u8)>, added: u64, changes: &[Change]) {
@@ -303,8 +312,14 @@ fn inputs_and_pending(list: &mut List) {
     let call = Call::Inputs { standing, lines: [0xFF_FFFF, 2, 3] };
     list.accepted(call, Answered::default(), 96, &given);
     list.see(CONTROLLER0 + 0x04, 4, Ok(0xFF));
-    let counted = [To(Field::Pending(Channel::new(63)), 5)];
-    list.accepted(Call::Pending { channel: 63, count: 5 }, Answered::default(), 32, &counted);
+    list.pending(63, 5, 32, 5);
+    list.note("document 02, [1]: a second count is added; 0 changes nothing, and has its group");
+    list.pending(63, 3, 32, 8);
+    list.pending(63, 0, 16, 8);
+    list.pending(63, u32::MAX - 8, 32, u32::MAX);
+    list.refused(Call::Pending { channel: 63, count: 1 }, 14);
+    list.pending(63, 0, 16, u32::MAX);
+    list.pending(62, u32::MAX, 32, u32::MAX);
     let taken = [To(Field::Taken(One, Source::new(2)), 1)];
     list.acknowledge(4, Some((5, 0x82)), 32, &taken);
     list.acknowledge(7, None, 16, &[]);
@@ -328,6 +343,13 @@ fn refusals(list: &mut List) {
     list.note("refusal 8");
     list.lend(16, 256, 0);
     list.refused(Call::Pending { channel: 64, count: 1 }, 8);
+    list.note("refusal 14: after 6 and 8, before 11");
+    let past = Call::Pending { channel: 63, count: 1 };
+    list.lend(16, 256, 8);
+    list.refused(past, 6);
+    list.lend(16, 32, 32);
+    list.refused(past, 14);
+    list.refused(Call::Pending { channel: 63, count: 0 }, 11);
     list.note("refusal 11: the journal is zero from the used length on");
     list.lend(16, 32, 16);
     list.refused(write, 11);

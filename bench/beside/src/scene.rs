@@ -155,7 +155,14 @@ impl Scene {
                 random.pick(&of_these)
             }
         };
-        Call::Pending { channel, count: random.pick(&[0, 1, 2, 3, 9, 600]) }
+        // Rarely so many that the next sum is at 2^32 - 1 or past it: a run
+        // then goes on for as long as it can.
+        let counts = [0, 1, 2, 3, 9, 600];
+        let count = match random.below(150) as usize {
+            most @ 0..=5 => u32::MAX - [3, 1, 0][most % 3],
+            other => counts[other % 6],
+        };
+        Call::Pending { channel, count }
     }
 
     fn time(&self, random: &mut Random) -> Time {

@@ -78,6 +78,13 @@ impl World {
         made!(self, images, &mut self.image, call)
     }
 
+    /// The refusal that a call is met with before anything is done, register
+    /// (3) excepted.
+    pub fn early(&self, call: Call) -> Option<u8> {
+        call.early(self.base, self.window.len(), self.journal.len(), self.used)
+            .or_else(|| call.barred(&self.image))
+    }
+
     /// The same memory, staging and journal around a device in memory.
     pub fn around(&self, device: Device) -> InMemory {
         InMemory {
@@ -90,7 +97,7 @@ impl World {
         }
     }
 
-    /// Makes a call and holds everything it was lent to document 01's words
+    /// Makes a call and holds everything it was lent to the documents' words
     /// on what is left unchanged, what is zero, and which length is answered.
     pub fn checked(&mut self, call: Call) -> Result<Answer, String> {
         let before = self.clone();
@@ -129,7 +136,7 @@ impl World {
     }
 
     fn broken_staging(&self, before: &World, call: Call, answer: Answer) -> Option<&'static str> {
-        let early = matches!(answer.status(), 1..=8 | 255);
+        let early = matches!(answer.status(), 1..=8 | 14 | 255);
         if early || !call.moves() {
             return (self.staging != before.staging).then_some("staging changed");
         }

@@ -48,5 +48,5 @@ fn the_example_in_c() {
     };
     let told = output(&mut command);
     println!("{told}");
-    assert!(told.contains("14 acts taken back"), "{told}");
+    assert!(told.contains("20 acts taken back"), "{told}");
 }

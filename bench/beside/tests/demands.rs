@@ -39,9 +39,13 @@ fn row(random: &mut Random, refusals: &mut BTreeMap<u8, u64>) -> u64 {
     let mut calls = 0;
     for _ in 0..30 {
         let call = if random.once_in(4) { Call::TakeBack } else { scene.call(random) };
+        let early = world.early(call);
         let answer = world.checked(call).unwrap_or_else(|told| panic!("{told}"));
         calls += 1;
-        let early = call.early(world.base, world.window.len(), world.journal.len(), world.used);
+        let number = answer.status();
+        if early.is_some() || matches!(number, 1 | 2 | 4..=8 | 12 | 14) {
+            assert_eq!(Some(number), early, "{call:?}");
+        }
         match (answer.status(), call) {
             (0, Call::TakeBack) => {
                 standing.pop().expect("12 where no act stands");
@@ -50,9 +54,6 @@ fn row(random: &mut Random, refusals: &mut BTreeMap<u8, u64>) -> u64 {
             (0, _) => standing.push(call),
             (number, _) => {
                 *refusals.entry(number).or_default() += 1;
-                if number < 9 && number != 3 || number == 12 {
-                    assert_eq!(early, Some(number), "{call:?}");
-                }
                 if number == 12 {
                     assert!(standing.is_empty(), "12 though {} acts stand", standing.len());
                 }
@@ -85,7 +86,7 @@ fn rows_with_take_backs() {
         }
     }
     println!("rows with take-backs: {calls} calls; refusals by number: {refusals:?}");
-    for number in [1, 2, 3, 4, 7, 8, 9, 10, 11, 12] {
+    for number in [1, 2, 3, 4, 7, 8, 9, 10, 11, 12, 14] {
         assert!(refusals.contains_key(&number), "refusal {number} never came");
     }
 }
@@ -245,6 +246,133 @@ fn early_refusals() {
         }
     }
     println!("early refusals: {seen}");
+}
+
+/// Sums below, at and above 2^32 - 1, however they are made up: 14 exactly
+/// above, after 6 and 8 and before 11, and nothing is changed then. A count of
+/// 0 is accepted and writes its group.
+#[test]
+fn sums_of_pending_counts() {
+    use kounpheray::{Channel, Device};
+    const MOST: u32 = u32::MAX;
+    let counts = [0, 1, 2, 9, 1 << 31, (1 << 31) + 1, MOST - 2, MOST - 1, MOST];
+    let mut random = Random::new(14);
+    let mut seen = BTreeMap::new();
+    for channel in Channel::all() {
+        for stands in counts {
+            let mut device = Device::fresh();
+            for other in Channel::all() {
+                let count = if other == channel { stands } else { random.pick(&counts) };
+                device.set(Field::Pending(other), u64::from(count)).expect("the count fits");
+            }
+            for count in counts {
+                let sum = u64::from(stands) + u64::from(count);
+                for (room, used, number) in
+                    [(64, 0, 0), (64, 32, 0), (16, 16, 11), (40, 16, 11), (64, 8, 6), (0, 16, 6)]
+                {
+                    let number = if number != 6 && sum > u64::from(MOST) { 14 } else { number };
+                    // Without a change the end record alone is written.
+                    let number = if number == 11 && count == 0 && room > 32 { 0 } else { number };
+                    let mut world = World {
+                        image: device.image(),
+                        base: 0,
+                        window: vec![1; 3],
+                        staging: vec![2; 3],
+                        journal: vec![3; room],
+                        used,
+                    };
+                    let call = Call::Pending { channel: channel.number().into(), count };
+                    let answer = world.checked(call).unwrap_or_else(|told| panic!("{told}"));
+                    assert_eq!(answer.status(), number, "{stands} and {count}, {used} of {room}");
+                    *seen.entry((number, sum.cmp(&u64::from(MOST)))).or_insert(0) += 1;
+                    if number == 0 {
+                        let mut wanted = device.clone();
+                        wanted.set(Field::Pending(channel), sum).expect("it was not refused");
+                        assert!(world.image == wanted.image(), "{stands} and {count}");
+                        assert_eq!(world.used, used + if count == 0 { 16 } else { 32 });
+                    }
+                }
+            }
+            let mut world = World {
+                image: device.image(),
+                base: 0,
+                window: vec![1; 3],
+                staging: Vec::new(),
+                journal: vec![3; 64],
+                used: 0,
+            };
+            let call = Call::Pending { channel: 64 + u32::from(channel.number()), count: MOST };
+            assert_eq!(world.checked(call).map(|answer| answer.status()), Ok(8));
+        }
+    }
+    println!("sums of pending counts, by status and beside 2^32 - 1: {seen:?}");
+}
+
+/// Rows of pending calls whose sums come to 2^32 - 1, stay below it or would
+/// pass it, with take-backs: what stands is what is there.
+#[test]
+fn rows_of_pending_counts() {
+    use kounpheray::{Channel, Device};
+    const MOST: u32 = u32::MAX;
+    let mut seen = BTreeMap::new();
+    for seed in seeds() {
+        let mut random = Random::new(4000 + seed);
+        for _ in 0..200 {
+            let mut device = Device::fresh();
+            let room = random.pick(&[31, 64, 320, 4096]);
+            for channel in [0, 63] {
+                let stands = random.pick(&[0, 1, 1 << 31, MOST - 3, MOST - 1, MOST]);
+                device.set(Field::Pending(Channel::new(channel)), stands.into()).expect("it fits");
+            }
+            let start = World {
+                image: device.image(),
+                base: 0,
+                window: vec![1; 16],
+                staging: Vec::new(),
+                journal: vec![3; room],
+                used: 0,
+            };
+            let mut world = start.clone();
+            let mut standing: Vec<Call> = Vec::new();
+            for _ in 0..40 {
+                let channel = random.pick(&[0, 63]);
+                let count = random.pick(&[0, 1, 1, 2, 3, 1 << 31, MOST - 3, MOST - 2, MOST - 1]);
+                let call = match random.below(3) {
+                    0 => Call::TakeBack,
+                    _ => Call::Pending { channel, count },
+                };
+                let early = world.early(call);
+                let number = world.checked(call).unwrap_or_else(|told| panic!("{told}")).status();
+                match (number, call) {
+                    (0, Call::TakeBack) => drop(standing.pop().expect("12 where none stands")),
+                    (0, _) => {
+                        assert_eq!(early, None, "{call:?}");
+                        standing.push(call);
+                        let now = Device::from_image(&world.image).expect("it is a device");
+                        let sum = now.get(Field::Pending(Channel::new(channel as u8)));
+                        let beside = sum.cmp(&u64::from(MOST));
+                        *seen.entry((number, Some(beside))).or_insert(0) += 1;
+                    }
+                    (11, _) => assert_eq!(early, None, "{call:?}"),
+                    _ => {
+                        assert_eq!(early, Some(number), "{call:?}");
+                        *seen.entry((number, None)).or_insert(0) += 1;
+                    }
+                }
+            }
+            assert_stands(&world, &start, &standing);
+            while standing.pop().is_some() {
+                assert_eq!(world.checked(Call::TakeBack).map(|answer| answer.status()), Ok(0));
+                assert_stands(&world, &start, &standing);
+            }
+            assert!(world.image == start.image, "back at the start");
+        }
+    }
+    println!("rows of pending counts, by status and beside 2^32 - 1: {seen:?}");
+    use std::cmp::Ordering::{Equal, Less};
+    for wanted in [(0, Some(Less)), (0, Some(Equal)), (14, None), (12, None)] {
+        assert!(seen.contains_key(&wanted), "{wanted:?} never came");
+    }
 }
 
 /// The longest window and journal are taken, one byte more is not.

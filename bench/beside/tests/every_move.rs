@@ -393,6 +393,32 @@ fn requests_are_spent() {
     });
 }
 
+/// Counts that come one after another add up, also to those that a turn left:
+/// with DREQ it ends at the major end.
+#[test]
+fn requests_add_up() {
+    lab("pending counts that add up", |lab| {
+        let channel = u32::from(CHANNEL.number());
+        for stands in [0, 1, 2, 600] {
+            for counts in [[1, 1, 0], [0, 0, 0], [2, 0, 5], [3, 601, 1]] {
+                for control in [0, csr::DREQ] {
+                    let tcd = Tcd { citer: 2, biter: 2, csr: control, ..standing_still() };
+                    let mut device = one_request(CHANNEL, &tcd);
+                    put(&mut device, Field::Pending(CHANNEL), stands);
+                    put(&mut device, Field::Kick, 0);
+                    lab.begin(&device);
+                    for count in counts {
+                        lab.call(Call::Pending { channel, count });
+                        lab.call(Call::Pending { channel, count: count / 2 });
+                        lab.call(Call::Inputs { standing: 0, lines: [0; 3] });
+                        lab.call(Call::Run(AT_ONCE));
+                    }
+                }
+            }
+        }
+    });
+}
+
 /// A ring of two channels that start each other: a run makes 4,096 turns and
 /// leaves the rest for the next.
 #[test]

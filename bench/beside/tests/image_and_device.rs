@@ -77,7 +77,7 @@ fn random_rows() {
     for name in names {
         assert!(answers.contains_key(&(name, 0)), "no {name} was accepted");
     }
-    for status in 1..=13 {
+    for status in 1..=14 {
         let seen = answers.keys().any(|&(_, number)| number == status);
         assert!(seen, "nothing was refused with {status}");
     }

@@ -6,7 +6,7 @@ mod line;
 mod setting;
 
 use kounpheray::{Act, Bench, Field, Origin, Refusal};
-use setting::{BLOCK, FAULTY, FAX, RING, RING_BLOCKS, VOICE};
+use setting::{BLOCK, FAULTY, FAX, LATE, RING, RING_BLOCKS, VOICE};
 
 fn main() -> Result<(), Refusal> {
     println!("KOUNPHERAY: a call that can be stepped back\n");
@@ -22,9 +22,22 @@ fn main() -> Result<(), Refusal> {
     let set_up = bench.acts().len();
     println!("1. Setting up took {set_up} register writes, one act each. Now the blocks arrive");
     println!("   (loudness of each ten samples between the bars; # is too loud for speech):\n");
+    let mut waiting = Vec::new();
     for block in 0..7 {
         arrive(&mut bench, block)?;
-        describe(&bench, block);
+        waiting.push(block);
+        let frames = bench.device().get(Field::Pending(VOICE));
+        if block == LATE {
+            println!("   block {block} waits: the processor is late; {frames} frame is pending");
+            continue;
+        }
+        if frames > 1 {
+            println!("   block {block}: now {frames} frames are pending, and one run moves them");
+        }
+        run(&mut bench, block)?;
+        for block in waiting.drain(..) {
+            describe(&bench, block);
+        }
     }
 
     let Some(odd) = line::detector(&bench) else {
@@ -70,11 +83,15 @@ fn main() -> Result<(), Refusal> {
 /// One block from the line: the samples come in, the channels have requests.
 fn arrive(bench: &mut Bench, block: usize) -> Result<(), Refusal> {
     line::deliver(bench, block);
-    bench.pending(VOICE, 1)?;
+    bench.frames_arrived(VOICE, 1)?;
     if block == FAULTY {
-        bench.pending(FAX, 1)?;
+        bench.frames_arrived(FAX, 1)?;
     }
-    bench.inputs(0, [0; 3])?;
+    Ok(())
+}
+
+/// The processor's turn: whatever waits is moved, interrupts are taken.
+fn run(bench: &mut Bench, block: usize) -> Result<(), Refusal> {
     bench.run(setting::time(block))?;
     while bench.acknowledge(0)?.is_some() {
         setting::clear_interrupts(bench)?;
@@ -139,9 +156,10 @@ fn told(act: &Act) -> String {
     match act {
         Act::Write { value, size, .. } => format!("a register write of {size} bytes, {value:x}"),
         Act::Inputs { .. } => "the inputs, looked at anew".to_string(),
-        Act::Pending { channel, .. } => format!("a request for {channel}"),
+        Act::Pending { channel, count } => format!("{count} more pending for {channel}"),
         Act::Run(time) => format!("a run at {} ms", time.now),
         Act::Service(time) => format!("a service at {} ms", time.now),
         Act::Acknowledge { ipl } => format!("an acknowledge above level {ipl}"),
+        other => format!("{other:?}"),
     }
 }

@@ -17,6 +17,9 @@ pub const BLOCK: usize = 160;
 /// Blocks in the ring.
 pub const RING_BLOCKS: usize = 4;
 
+/// The block that waits for the next one.
+pub const LATE: usize = 2;
+
 /// The block with which the fault comes.
 pub const FAULTY: usize = 5;
 

@@ -13,6 +13,7 @@ use crate::register::Register;
 /// What was done to the device. The acts that stand, in order, are what a
 /// [`Bench`] can step back over.
 #[derive(Clone, Copy, Debug, PartialEq, Eq)]
+#[non_exhaustive]
 pub enum Act {
     /// A register write.
     Write {
@@ -30,11 +31,11 @@ pub enum Act {
         /// The three controllers' lines.
         lines: [u64; 3],
     },
-    /// A pending count.
+    /// More requests pending.
     Pending {
-        /// The channel it is for.
+        /// The channel they are for.
         channel: Channel,
-        /// The count.
+        /// How many were added.
         count: u32,
     },
     /// A run.
@@ -229,15 +230,26 @@ impl Bench {
     /// acts, `csr` last, so that START finds the rest in place. Where one is
     /// refused, those before it are taken back.
     pub fn write_descriptor(&mut self, channel: Channel, tcd: &Tcd) -> Result<(), Refusal> {
-        for (made, field) in TcdField::ALL.into_iter().enumerate() {
-            if let Err(refusal) = self.write((channel, field), field.of(tcd)) {
-                for _ in 0..made {
-                    self.step_back()?;
-                }
-                return Err(refusal);
+        self.all_or_none(|bench| {
+            TcdField::ALL
+                .into_iter()
+                .try_for_each(|field| bench.write((channel, field), field.of(tcd)))
+        })
+    }
+
+    /// Several acts: where one is refused, those before it are taken back.
+    fn all_or_none(
+        &mut self,
+        acts: impl FnOnce(&mut Bench) -> Result<(), Refusal>,
+    ) -> Result<(), Refusal> {
+        let standing = self.acts.len();
+        let made = acts(self);
+        if made.is_err() {
+            while self.acts.len() > standing {
+                self.step_back()?;
             }
         }
-        Ok(())
+        made
     }
 
     /// A channel's descriptor as it is.
@@ -246,19 +258,69 @@ impl Bench {
     }
 
     /// Puts the standing requests and the lines; every requesting channel
-    /// with its ERQ bit set then has work waiting.
+    /// with its ERQ bit set then has work waiting. What is given here takes
+    /// the place of all that was given before: lines that are to stay up are
+    /// given again. ([`Device::inputs`] says which they are.) Only the lines
+    /// that the DMA drives itself stay as they are, whatever is given.
     pub fn inputs(&mut self, standing: u64, lines: [u64; 3]) -> Result<(), Refusal> {
         let journal = LentJournal { bytes: &mut self.journal, used: self.used as u64 };
         let answer = ffi::inputs(&mut self.device, standing, lines, journal);
         self.stands(answer, Act::Inputs { standing, lines })
     }
 
-    /// Stores a pending count for one channel.
+    /// Adds to the requests that a channel has pending; one is spent for each
+    /// pass. Refused with 14 where the sum would pass 2^32 - 1.
+    ///
+    /// This alone gives no channel work: a [`run`](Bench::run) that follows
+    /// moves nothing, since only registers and [`inputs`](Bench::inputs) set a
+    /// channel's KICK bit. So `inputs` comes in between; or
+    /// [`frames_arrived`](Bench::frames_arrived) does both.
     pub fn pending(&mut self, channel: Channel, count: u32) -> Result<(), Refusal> {
         let journal = LentJournal { bytes: &mut self.journal, used: self.used as u64 };
         let number = u32::from(channel.number());
         let answer = ffi::pending(&mut self.device, number, count, journal);
         self.stands(answer, Act::Pending { channel, count })
+    }
+
+    /// What a line driver reports: so many frames have come for this channel.
+    /// Two acts: so many more requests pending, and the inputs as they were
+    /// last given, which let the channel's KICK bit be set. Where the second
+    /// is refused, the first is taken back.
+    ///
+    /// ```
+    /// use kounpheray::{Bench, Channel, DmaRegister, Field, Select, Size, Tcd, Time};
+    ///
+    /// let mut window = vec![0; 64];
+    /// window[..8].copy_from_slice(b"ringback");
+    /// let mut bench = Bench::new(0x8000_0000, window);
+    /// let channel = Channel::new(5);
+    /// bench.write_descriptor(channel, &Tcd {
+    ///     saddr: 0x8000_0000,
+    ///     attr: Tcd::attr(Size::Four, 0, Size::Four, 0),
+    ///     soff: 4,
+    ///     nbytes: 4, // a frame
+    ///     daddr: 0x8000_0020,
+    ///     citer: 9,
+    ///     doff: 4,
+    ///     biter: 9,
+    ///     ..Tcd::default()
+    /// })?;
+    /// bench.write(DmaRegister::SetErq, Select::Channel(channel).value())?;
+    ///
+    /// // The second frame comes while the first still waits: neither is lost.
+    /// bench.frames_arrived(channel, 1)?;
+    /// bench.frames_arrived(channel, 1)?;
+    /// assert_eq!(bench.device().get(Field::Pending(channel)), 2);
+    /// bench.run(Time { now: 0, pace: 0 })?;
+    /// assert_eq!(bench.bytes(0x8000_0020, 8), Some(&b"ringback"[..]));
+    /// # Ok::<(), kounpheray::Refusal>(())
+    /// ```
+    pub fn frames_arrived(&mut self, channel: Channel, count: u32) -> Result<(), Refusal> {
+        self.all_or_none(|bench| {
+            bench.pending(channel, count)?;
+            let (standing, lines) = bench.device.inputs();
+            bench.inputs(standing, lines)
+        })
     }
 
     /// Runs every channel with work waiting.

@@ -141,6 +141,14 @@ impl Device {
         Ok(())
     }
 
+    /// The standing requests and the three controllers' lines as they stand:
+    /// those that inputs last gave, and among the lines those that the DMA
+    /// drives. Given to [`crate::Bench::inputs`] again, they change neither.
+    pub fn inputs(&self) -> (u64, [u64; 3]) {
+        let raw = &*self.raw;
+        (raw.scalars.standing, [0, 1, 2].map(|c| raw.controllers[c].lines))
+    }
+
     /// A channel's descriptor.
     pub fn descriptor(&self, channel: Channel) -> Tcd {
         descriptor_in(&self.raw.table, channel)

@@ -153,7 +153,7 @@ pub fn inputs(
     })
 }
 
-/// Stores a pending count for one channel.
+/// Adds to the pending count of one channel.
 pub fn pending(device: &mut Device, channel: u32, count: u32, journal: LentJournal<'_>) -> Answer {
     let LentJournal { bytes, used } = journal;
     // SAFETY: as the module says.

@@ -6,6 +6,7 @@ use std::fmt;
 
 /// A field of the device.
 #[derive(Clone, Copy, Debug, PartialEq, Eq, PartialOrd, Ord, Hash)]
+#[non_exhaustive]
 pub enum Field {
     /// Control register; bit 7 turns minor offsets on.
     Cr,

@@ -22,6 +22,7 @@ pub enum Register {
 
 /// A register of the DMA.
 #[derive(Clone, Copy, Debug, PartialEq, Eq, PartialOrd, Ord, Hash)]
+#[non_exhaustive]
 pub enum DmaRegister {
     /// Control.
     Cr,

@@ -75,14 +75,20 @@ impl Oracle {
         requests_in_domain(io)
     }
 
-    /// Stores a count for one channel, if one of the four can be had for it.
+    /// Adds to the count of one channel, if one of the four can be had for it.
+    ///
+    /// # Panics
+    /// If the sum passes 2^32 - 1, which the Rust has no refusal for.
     pub fn pending(&mut self, channel: usize, count: u32) -> Result<(), Outside> {
         let io = &mut self.bus.io;
         let counts = requests::counts(io);
         let held = (0..4).find(|&n| counts[n] > 0 && requests::channel(io, n) == channel);
         let free = (0..4).find(|&n| counts[n] == 0);
         match held.or(free) {
-            Some(n) => requests::set_count(io, n, channel, count),
+            Some(n) => {
+                let sum = counts[n].checked_add(count).expect("a sum that is not refused");
+                requests::set_count(io, n, channel, sum);
+            }
             None if count == 0 => {}
             None => return Err(Outside::TooManyCounted),
         }

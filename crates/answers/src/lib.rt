@@ -26,6 +26,7 @@ pub fn refusal_number(r: Refusal) -> u8
         Refusal::Room => 11,
         Refusal::NothingStands => 12,
         Refusal::Damaged => 13,
+        Refusal::Count => 14,
     }
 }
 

@@ -1,7 +1,7 @@
-// What a call tests before it does anything: refusals 1, 5, 6 and 7 of document 01, quoted from its table.
+// What a call tests before it does anything: refusals 1, 5, 6 and 7 of document 01 and 14 of document 02, quoted from them.
 // Each contract is an equation with a definition of crate `rules` (specs/Calls.antt).
 ghost use mathlib.Core.Path.{_≡_};
-ghost use Rattle.rules.specs.Calls.{badSize, badWindow, badJournal, badTime};
+ghost use Rattle.rules.specs.Calls.{badSize, badWindow, badJournal, badTime, badSum};
 
 // 1: "size is not 1, 2 or 4".
 pub fn bad_size(size: u32) -> bool
@@ -49,4 +49,11 @@ pub fn bad_time(now: u64, pace: u64) -> bool
         return true;
     }
     1000000 < pace
+}
+
+// 14: "the sum would pass 2^32 - 1".
+pub fn bad_sum(standing: u32, count: u32) -> bool
+    ensures { λ r. ⌜ r ≡ badSum standing count ⌝ }
+{
+    0xFFFFFFFF - standing < count
 }

@@ -2,14 +2,14 @@
 use mathlib.Core.Bool.{Bool, true, false}
 use mathlib.Core.List.{List, [], _∷_, _++_}
 use mathlib.Core.Path.{_≡_, refl, sym, ap, _∙_}
-use Prim.Native.Nat.{ℕ, suc, _+_, _-_, _/_, _≤_, _<_}
-use native.Mathlib.Nat.{add-suc, add-zero, suc-add, suc-inj, not-suc-le-zero, le-of-eq}
+use Prim.Native.Nat.{ℕ, zero, suc, _+_, _-_, _/_, _≤_, _<_}
+use native.Mathlib.Nat.{add-suc, add-zero, suc-add, suc-inj, not-suc-le-zero, le-of-suc-le-suc, le-of-eq}
 use native.Mathlib.Numerals.{add-one}
 use native.Mathlib.Omega.{arith}
 use borrow.Author.Tests.{le-leb, lt-leb, eq-eqb, eqb-true, ne-eqb}
 use lib.Bits.{bitOr, bitXor, or-add-and, xor-add-and, and-le-l, and-le-r}
 use lib.Dec.{eqb}
-use lib.ListN.{length, getD, take, drop, length-take, length-drop, take-append-drop, drop-of-length-le}
+use lib.ListN.{length, getD, set, take, drop, length-take, length-drop, take-append-drop, drop-of-length-le}
 use lib.Seq.{take-suc, take-all, drop-cons, drop-drop}
 use Rattle.rules.specs.Bytes.{splice}
 use Rattle.rules.specs.Carry.{Rec, stoodIn, line, lineOf, endLine, changed}
@@ -88,6 +88,23 @@ changed-self n (x ∷ xs) = rw (eq-eqb x x refl, changed) (changed-self (suc n) 
 pub none-changed : (n : ℕ) (xs ys : List ℕ) (s : Noting) → xs ≡ ys → s ≡ addAll (changed n xs ys) s
 unfolding addAll
 none-changed n xs ys s e = rw (e, changed-self n ys)
+
+-- lists that are the same but for one element
+changed-set : (n : ℕ) (xs : List ℕ) (i v : ℕ) → i < length xs → changed n xs (set xs i v) ≡ changed (n + i) (getD xs i 0 ∷ []) (v ∷ [])
+unfolding changed
+changed-set n [] i v h = absurd (not-suc-le-zero h)
+changed-set n (x ∷ xs) zero v h = by (eqb x v) refl
+  where
+    by : (t : Bool) → eqb x v ≡ t → changed n (x ∷ xs) (v ∷ xs) ≡ changed (n + 0) (x ∷ []) (v ∷ [])
+    by true t = rw (t, changed) (changed-self (suc n) xs)
+    by false t = rw (t, changed, add-zero) (ap (λ (l : List Rec). stoodIn n x ∷ l) (changed-self (suc n) xs))
+changed-set n (x ∷ xs) (suc i) v h =
+    rw (eq-eqb x x refl, changed)
+    (changed-set (suc n) xs i v (le-of-suc-le-suc h) ∙ ap (λ (k : ℕ). changed k (getD xs i 0 ∷ []) (v ∷ [])) (suc-add n i ∙ sym (add-suc n i)))
+
+pub one-changed : (n m : ℕ) (xs : List ℕ) (i x y v : ℕ) (s : Noting) {r : Noting} → i < length xs → x ≡ getD xs i 0 → y ≡ v → m ≡ n + i
+    → r ≡ addAll (changed m (x ∷ []) (y ∷ [])) s → r ≡ addAll (changed n xs (set xs i v)) s
+one-changed n m xs i x y v s h e f g p = rw (changed-set n xs i v h, ← e, ← f, ← g) p
 
 -- a part that no act changes, then the rest
 pub same-on : (n m : ℕ) (ps xs ys : List ℕ) (s : Noting) {r : Noting} → n + length ps ≡ m → r ≡ addAll (changed m xs ys) s → r ≡ addAll (changed n (ps ++ xs) (ps ++ ys)) s

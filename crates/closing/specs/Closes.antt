@@ -4,7 +4,7 @@ use mathlib.Core.List.{List, [], _∷_, _++_}
 use mathlib.Core.Path.{_≡_}
 use Prim.Native.Nat.{ℕ, _+_, _-_, _/_, _^_, _≤_, _<_}
 use lib.Dec.{leb}
-use lib.ListN.{length, take, replicate}
+use lib.ListN.{length, getD, set, take, replicate}
 use Rattle.rules.specs.Bytes.{splice}
 use Rattle.rules.specs.Calls.{worldOf}
 use Rattle.rules.specs.Carry.{World, Rec, lineOf, endLine, changed, After, made, unmade, ok, cleared, leave}
@@ -47,6 +47,10 @@ pub record Part (m n : ℕ) (b a : List ℕ) (s r : Noted) (j j′ : List ℕ) :
   pub long : length b ≡ m
   pub long-now : length a ≡ m
   pub noted : Notes n b a s r j j′
+
+-- of one channel's count, b at the act's entry and a now: all the counts, of which no other was changed
+abbrev pub NotesCount : ℕ → ℕ → ℕ → Noted → Noted → List ℕ → List ℕ → Type 0
+NotesCount ch b a s r j j′ = (counts : List ℕ) → length counts ≡ 64 → getD counts ch 0 ≡ b → Part 64 192 counts (set counts ch a) s r j j′
 
 -- what is asked of the two arrays: as long as each other, and numbers that a record's place can hold
 pub record Noteworthy (n : ℕ) (b a : List ℕ) : Type 0 where

@@ -3,18 +3,18 @@ use mathlib.Core.Bool.{true, false}
 use mathlib.Core.List.{List}
 use mathlib.Core.Path.{_≡_, refl}
 use Prim.Native.Nat.{ℕ, zero, suc, _%_, _^_}
-use lib.Dec.{eqb, leb}
+use lib.Dec.{leb}
 use lib.ListN.{length}
-use Rattle.rules.specs.Act.{Field, SCALAR, MASKS, FORCED, LINES, CONFIG, BUSY, MAJORS, PENDING, SOURCE, TAKEN, IGNORE}
-use Rattle.rules.specs.Calls.{ack, wrong, actOf, stagingAfter, told, deviceTold, toldAfter, worldOf, after}
+use Rattle.rules.specs.Act.{Field, SCALAR, MASKS, FORCED, LINES, CONFIG, BUSY, MAJORS, PENDING, SOURCE, TAKEN}
+use Rattle.rules.specs.Calls.{ack, stops, actOf, stagingAfter, told, deviceTold, toldAfter, worldOf, after}
 use Rattle.rules.specs.Carry.{World, Out, ok, no, made, unmade, withDevice, lastLines, written, cleared, leave, perform, lending}
 use Rattle.rules.specs.Fields.{bitsOf}
-use Rattle.rules.specs.Lines.{Found, sources, levelBytes, heardFrom, hear, acknowledge}
 use Rattle.rules.specs.State.{Device}
 use Rattle.rules.specs.declared.Heard.{Heard}
 use Rattle.rules.specs.declared.Heard.the-variants as Heard
-use Rattle.rules.proofs.Each.{Rights, Each, at-done, _>>=_, _>>_, each-ask, each-change, each-look, each-cond, Proper, Properly, each-keeps}
+use Rattle.rules.proofs.Each.{Rights, Proper, Properly, each-keeps}
 use Rattle.rules.proofs.Keeps.{AtEnd}
+use Rattle.rules.proofs.Pieces.{acknowledge-each}
 use Rattle.rules.proofs.Steps.{putting}
 
 -- ---- its steps
@@ -33,40 +33,6 @@ OfTaken (TAKEN i) = Unit {0}
 
 abbrev counting : Rights
 counting = record { may-stage = λ n. ⊥; may-fetch = λ sp a n. ⊥; may-store = λ sp a n. ⊥; may-put = OfTaken }
-
-sources-counting : (c : ℕ) → Each counting (sources c)
-unfolding sources
-sources-counting c = do
-  ignore ← each-look IGNORE
-  lines ← each-ask (LINES c)
-  masks ← each-ask (MASKS c)
-  forced ← each-ask (FORCED c)
-  at-done
-
-levels-counting : (c left s : ℕ) → Each counting (levelBytes c left s)
-unfolding levelBytes
-levels-counting c zero s = at-done
-levels-counting c (suc left) s = do
-  l ← each-ask (SOURCE c s)
-  rest ← levels-counting c left (suc s)
-  at-done
-
-heard-counting : (ipl c : ℕ) (below : Found) → Each counting (heardFrom ipl c below)
-unfolding heardFrom
-heard-counting ipl c below = do
-  m ← sources-counting c
-  levels ← levels-counting c 64 0
-  at-done
-
-acknowledge-counting : (ipl : ℕ) → Each counting (acknowledge ipl)
-unfolding acknowledge hear
-acknowledge-counting ipl = do
-  h0 ← heard-counting ipl 0 (0, 0)
-  h1 ← heard-counting ipl 1 h0
-  h2 ← heard-counting ipl 2 h1
-  each-cond (eqb (h2 .0) 0) (λ _. at-done) (λ _. do
-    each-change (TAKEN (h2 .1)) _ tt
-    at-done)
 
 -- ---- the device
 
@@ -102,7 +68,7 @@ module _ (d : Device) where
   module _ (base : ℕ) (window staging journal : List ℕ) (used ipl : ℕ) (proper : Proper d) where
     pub ack-keeps : As (deviceTold (after (ack ipl) base d window staging journal used))
     unfolding after perform actOf
-    ack-keeps = by-number (wrong base (length window) (length journal) used (ack ipl))
+    ack-keeps = by-number (stops base (length window) (length journal) used (ack ipl) d)
       where
         by-number : (n : ℕ) → As (deviceTold (elim n [
           | zero ↦ toldAfter (stagingAfter (ack ipl) staging) used (perform base (lending (length staging)) (actOf (ack ipl)) (worldOf d window journal used))
@@ -110,5 +76,5 @@ module _ (d : Device) where
         ]))
         by-number zero =
             ended (worldOf d window journal used) _ _ used (refl, refl)
-            (each-keeps base (lending (length staging)) counting On (λ sp a n v u q h. absurd h) on-put (acknowledge-counting ipl) (worldOf d window journal used) (proper, (refl, refl)))
+            (each-keeps base (lending (length staging)) counting On (λ sp a n v u q h. absurd h) on-put (acknowledge-each (λ i. tt) ipl) (worldOf d window journal used) (proper, (refl, refl)))
         by-number (suc n) = (refl, refl)

@@ -2,11 +2,9 @@
 use mathlib.Core.Bool.{Bool, true, false}
 use mathlib.Core.List.{List}
 use mathlib.Core.Path.{_≡_, refl, sym, ap, _∙_}
-use Prim.Native.Nat.{ℕ, zero, suc, _<_}
-use native.Mathlib.Omega.{arith}
-use lib.Dec.{lit<}
+use Prim.Native.Nat.{ℕ, suc}
 use lib.ListN.{length, replicate}
-use Rattle.rules.specs.Calls.{Asked, run, service, Told, told, refusalNumber, verdictNumber, levelled, actOf, wrong, stagingAfter, worldOf, toldAfter, after}
+use Rattle.rules.specs.Calls.{Asked, run, service, Told, told, verdictNumber, levelled, actOf, wrong, first, barred, stops, stagingAfter, worldOf, toldAfter, after}
 use Rattle.rules.specs.Carry.{perform, lending}
 use Rattle.rules.specs.Run.{runAll, serviceAll}
 use Rattle.rules.specs.State.{Device}
@@ -16,23 +14,8 @@ use Rattle.rules.specs.declared.Refusal.the-variants as Refusal
 use Rattle.rules.specs.declared.Verdict.{Verdict}
 use Rattle.rules.specs.declared.Verdict.the-variants as Verdict
 use Rattle.rules.proofs.CallLaws.{act-wrong}
+use Rattle.rules.proofs.Told.{refusal-suc}
 use Rattle.engine.specs.Runs.{turnsOf, callOf}
-
--- a refusal's number is not 0
-numbered : (n : Refusal) → 0 < refusalNumber n
-numbered Refusal.Size = lit< tt
-numbered Refusal.Address = lit< tt
-numbered Refusal.Register = lit< tt
-numbered Refusal.Crossing = lit< tt
-numbered Refusal.Window = lit< tt
-numbered Refusal.Journal = lit< tt
-numbered Refusal.Time = lit< tt
-numbered Refusal.Channel = lit< tt
-numbered Refusal.Outside = lit< tt
-numbered Refusal.Staging = lit< tt
-numbered Refusal.Room = lit< tt
-numbered Refusal.NothingStands = lit< tt
-numbered Refusal.Damaged = lit< tt
 
 service-wrong : (base window journal used time pace : ℕ) → wrong base window journal used (service time pace) ≡ wrong base window journal used (run time pace)
 unfolding wrong
@@ -43,25 +26,24 @@ asked-wrong base window journal used time pace true = service-wrong base window 
 asked-wrong base window journal used time pace false = refl
 
 module _ (base : ℕ) (d : Device) (w s j : List ℕ) (used : ℕ) where
-  told-wrong : (c : Asked) (x : ℕ) → 0 < x → wrong base (length w) (length j) used c ≡ x → told x Heard.Nothing d w s j used ≡ after c base d w s j used
-  told-wrong c zero h e = absurd (omega arith)
-  told-wrong c (suc n) h e = sym (act-wrong base d w j used n c s e)
-
   pub refused-told : (c : Asked) (v : Verdict) → verdictNumber v ≡ wrong base (length w) (length j) used c → {n : Refusal} → v ≡ Verdict.Refused n
       → told (verdictNumber v) Heard.Nothing d w s j used ≡ after c base d w s j used
-  refused-told c v e {n} h = told-wrong c (verdictNumber v) (rw (ap verdictNumber h) (numbered n)) (sym e)
+  refused-told c v e {n} h =
+      let k = refusal-suc n in
+      let is : verdictNumber v ≡ suc (k .0) = ap verdictNumber h ∙ k .1 in
+      ap (λ i. told i Heard.Nothing d w s j used) is ∙ sym (act-wrong base d w j used (k .0) c s (sym e ∙ is))
 
   module _ (time pace : ℕ) (x : Told) where
     run-told : wrong base (length w) (length j) used (run time pace) ≡ 0
         → x ≡ toldAfter (replicate (length s) 0) used (perform base (lending (length s)) (levelled (runAll time pace)) (worldOf d w j used))
         → x ≡ after (run time pace) base d w s j used
-    unfolding after stagingAfter actOf
+    unfolding after stops first barred stagingAfter actOf
     run-told e q = q ∙ sym (rw (e, after))
 
     service-told : wrong base (length w) (length j) used (service time pace) ≡ 0
         → x ≡ toldAfter (replicate (length s) 0) used (perform base (lending (length s)) (levelled (serviceAll time pace)) (worldOf d w j used))
         → x ≡ after (service time pace) base d w s j used
-    unfolding after stagingAfter actOf
+    unfolding after stops first barred stagingAfter actOf
     service-told e q = q ∙ sym (rw (e, after))
 
     pub asked-told : (again : Bool) → wrong base (length w) (length j) used (run time pace) ≡ 0

@@ -1,15 +1,16 @@
 -- The calls, by cases: what is wrong with the arguments, in number order, and what is done. Assumes nothing.
 use mathlib.Core.Bool.{Bool, true, false, not, _||_}
-use mathlib.Core.List.{List}
+use mathlib.Core.List.{List, []}
 use mathlib.Core.Option.{Option}
-use mathlib.Core.Path.{_≡_, refl, sym, _∙_}
-use Prim.Native.Nat.{ℕ, zero, suc, _+_, _%_, _^_, _≤_, _<_}
+use mathlib.Core.Path.{_≡_, refl, sym, ap, _∙_}
+use Prim.Native.Nat.{ℕ, zero, suc, _+_, _-_, _%_, _^_, _≤_, _<_}
 use native.Mathlib.Omega.{arith}
 use borrow.Author.Tests.{le-leb, leb-false, ltb-false, ne-eqb, lt-ltb}
 use lib.Dec.{eqb, ltb}
-use lib.ListN.{length, set, take, drop}
+use lib.ListN.{length, getD, set, take, drop}
+use lib.Seq.{set-getD, set-set}
 use Rattle.rules.specs.Act.{Act, PENDING}
-use Rattle.rules.specs.Calls.{Asked, write, actOf, setPending, badSize, badJournal, isNone, orNothing, check, wrong, wrongRead, levelled, Told, told, toldAfter, stagingAfter, toldReading, toldRead, refusalNumber, orZero, worldOf, after, afterRead}
+use Rattle.rules.specs.Calls.{Asked, write, actOf, addPending, badSize, badJournal, badSum, isNone, orNothing, check, wrong, first, barred, stops, wrongRead, levelled, Told, told, toldAfter, stagingAfter, toldReading, toldRead, refusalNumber, orZero, worldOf, after, afterRead}
 use Rattle.rules.specs.Carry.{Out, ok, changed, go, leave, perform, Lent, lending}
 use Rattle.rules.specs.Fields.{bitsOf, fieldsOf}
 use Rattle.rules.specs.Registers.{within, inBlocks, inTable, blockOf, offsetOf, dmaRead, dmaWrite, readIn, readAt, writeIn, writeAt, controllerWrite, pastTable, pastWord}
@@ -22,6 +23,7 @@ use Rattle.rules.specs.declared.Refusal.the-variants as Refusal
 use Rattle.rules.specs.declared.Verdict.the-variants as Verdict
 use Rattle.rules.proofs.BoolLaws.{and-left, and-both}
 use Rattle.rules.proofs.Each.{Proper}
+use Rattle.rules.proofs.Told.{refusal-suc}
 use Rattle.act.specs.Does.{Answers, Does}
 use Rattle.act.specs.Parts.{Arrays, tabled, counted, taking, whole, toldDone}
 use Rattle.act.specs.Worlds.{on, cameTo}
@@ -29,10 +31,11 @@ use Rattle.act.specs.declared.Core.{Core}
 use Rattle.act.specs.declared.Done.{Done}
 use Rattle.act.specs.declared.Step.the-variants.{Going}
 use Rattle.act.specs.declared.Walk.the-variants.{On}
-use Rattle.act.proofs.DoesLaws.{does-put}
+use Rattle.act.proofs.DoesLaws.{does-change}
 use Rattle.closing.specs.Closes.{noting, addAll, addEnd, Notes, Part, coreIn}
 use Rattle.closing.specs.declared.Noted.{Noted}
-use Rattle.closing.specs.declared.Noted.the-variants.{At}
+use Rattle.closing.specs.declared.Noted.the-variants.{At, Full}
+use Rattle.closing.proofs.Parts.{same-pending}
 use Rattle.acting.specs.Ending.{begunAt, doneBy, clearedFrom, Settled, Settles}
 use Rattle.acting.specs.declared.Reached.{Reached}
 use Rattle.acting.proofs.Laws.{told-made, told-cleared, does-goes, counts-noted, taken-noted}
@@ -63,6 +66,15 @@ or-false false = refl
 pub used-fits : (len used : ℕ) {r : Bool} → r ≡ badJournal len used → r ≡ false → used ≤ len
 unfolding badJournal
 used-fits len used e f = ltb-false len used (or-last (ltb (2 ^ 28) len || not (eqb (used % 16) 0)) (ltb len used) (sym e ∙ f))
+
+-- a sum that may be made
+pub sum-fits : (standing count : ℕ) {r : Bool} → r ≡ badSum standing count → r ≡ false → standing + count < 2 ^ 32
+unfolding badSum
+sum-fits standing count e f = omega (arith, ltb-false (2 ^ 32 - 1) (standing + count) (sym e ∙ f))
+
+-- what stood there, put back
+pub put-back : (l : List ℕ) (i v : ℕ) → set (set l i v) i (getD l i 0) ≡ l
+put-back l i v = set-set l i v (getD l i 0) ∙ set-getD l i 0
 
 -- ---- refusal 4, by the offset
 
@@ -132,19 +144,7 @@ module _ (does : Option (Act (Unit {0}))) (past bad : Bool) where
 module _ (m : Act Heard) (base : ℕ) (d : Device) (w staging j : List ℕ) (used : ℕ) where
   told-no : (why : Refusal) → told (refusalNumber why) Heard.Nothing d w staging j used ≡ answered (refusalNumber why) m base d w staging j used
   unfolding answered
-  told-no Refusal.Size = refl
-  told-no Refusal.Address = refl
-  told-no Refusal.Register = refl
-  told-no Refusal.Crossing = refl
-  told-no Refusal.Window = refl
-  told-no Refusal.Journal = refl
-  told-no Refusal.Time = refl
-  told-no Refusal.Channel = refl
-  told-no Refusal.Outside = refl
-  told-no Refusal.Staging = refl
-  told-no Refusal.Room = refl
-  told-no Refusal.NothingStands = refl
-  told-no Refusal.Damaged = refl
+  told-no why = rw (refusal-suc why .1) refl
 
   pub accepts : {n : ℕ} {x : Told} → n ≡ 0 → x ≡ toldAfter staging used (perform base (lending (length staging)) m (worldOf d w j used)) → x ≡ answered n m base d w staging j used
   unfolding answered
@@ -156,10 +156,10 @@ pub refuses : (m : Act Heard) (base : ℕ) (k : Core) (x : Arrays) (w staging j 
 refuses m base k x w staging j used why e f = rw (e, f) (told-no m base (whole k x) w staging j used why)
 
 -- a call that leaves staging as it is
-pub asked-after : (c : Asked) (base : ℕ) (d : Device) (w staging j : List ℕ) (used : ℕ) → stagingAfter c staging ≡ staging
-    → answered (wrong base (length w) (length j) used c) (actOf c) base d w staging j used ≡ after c base d w staging j used
+pub stopped-after : (c : Asked) (base : ℕ) (d : Device) (w staging j : List ℕ) (used : ℕ) → stagingAfter c staging ≡ staging
+    → answered (stops base (length w) (length j) used c d) (actOf c) base d w staging j used ≡ after c base d w staging j used
 unfolding answered after
-asked-after c base d w staging j used e = by (wrong base (length w) (length j) used c)
+stopped-after c base d w staging j used e = by (stops base (length w) (length j) used c d)
   where
     by : (n : ℕ) → answered n (actOf c) base d w staging j used ≡ elim n [
       | zero ↦ toldAfter (stagingAfter c staging) used (perform base (lending (length staging)) (actOf c) (worldOf d w j used))
@@ -168,15 +168,25 @@ asked-after c base d w staging j used e = by (wrong base (length w) (length j) u
     by zero = rw e refl
     by (suc k) = refl
 
+-- and that no device bars
+pub asked-after : (c : Asked) (base : ℕ) (d : Device) (w staging j : List ℕ) (used : ℕ) → stagingAfter c staging ≡ staging → barred c d ≡ 0
+    → answered (wrong base (length w) (length j) used c) (actOf c) base d w staging j used ≡ after c base d w staging j used
+unfolding stops first
+asked-after c base d w staging j used e b = ap (λ n. answered n (actOf c) base d w staging j used) (by (wrong base (length w) (length j) used c)) ∙ stopped-after c base d w staging j used e
+  where
+    by : (n : ℕ) → n ≡ first n (barred c d)
+    by zero = sym b
+    by (suc k) = refl
+
 -- ---- write, by the block
 
 -- the refusals before a block is known
 pub write-no : (address size v base : ℕ) (k : Core) (x : Arrays) (w staging j : List ℕ) (used : ℕ) (why : Refusal) {r : Done}
     → r ≡ record { verdict = Verdict.Refused why; used = used; core = k } → wrong base (length w) (length j) used (write address size v) ≡ refusalNumber why
     → toldDone Heard.Nothing r x w staging j ≡ after (write address size v) base (whole k x) w staging j used
-unfolding stagingAfter
+unfolding stagingAfter barred
 write-no address size v base k x w staging j used why e f =
-    refuses (actOf (write address size v)) base k x w staging j used why e f ∙ asked-after (write address size v) base (whole k x) w staging j used refl
+    refuses (actOf (write address size v)) base k x w staging j used why e f ∙ asked-after (write address size v) base (whole k x) w staging j used refl refl
 
 module _ (address size v base : ℕ) (d : Device) (w staging j : List ℕ) (used : ℕ) where
   abbrev off : ℕ
@@ -195,15 +205,15 @@ module _ (address size v base : ℕ) (d : Device) (w staging j : List ℕ) (used
       pub write-dma-after : blockOf address ≡ 0
           → answered (number (dmaWrite off size v) (pastEnd off size) (badJournal (length j) used)) (levelled (orNothing (dmaWrite off size v))) base d w staging j used
           ≡ after (write address size v) base d w staging j used
-      unfolding stagingAfter wrong check actOf writeAt writeIn offsetOf pastTable pastWord pastEnd
-      write-dma-after z = rw (← asked-after (write address size v) base d w staging j used refl, s, b, z, or-false)
+      unfolding stagingAfter barred wrong check actOf writeAt writeIn offsetOf pastTable pastWord pastEnd
+      write-dma-after z = rw (← asked-after (write address size v) base d w staging j used refl refl, s, b, z, or-false)
 
       pub write-controller-after : (c : ℕ) → blockOf address ≡ suc c
           → answered (number (controllerWrite c off size v) (pastPart off size) (badJournal (length j) used)) (levelled (orNothing (controllerWrite c off size v))) base d w staging j used
           ≡ after (write address size v) base d w staging j used
-      unfolding stagingAfter wrong check actOf writeAt writeIn offsetOf pastTable pastWord pastPart
+      unfolding stagingAfter barred wrong check actOf writeAt writeIn offsetOf pastTable pastWord pastPart
       write-controller-after c z =
-          rw (← asked-after (write address size v) base d w staging j used refl, s, b, z, ne-eqb (suc c) 0 (λ e. omega arith), lt-ltb 0 (suc c) (omega arith))
+          rw (← asked-after (write address size v) base d w staging j used refl refl, s, b, z, ne-eqb (suc c) 0 (λ e. omega arith), lt-ltb 0 (suc c) (omega arith))
 
 -- a DMA write begins with a core's numbers and the table t, and comes to the table t′
 pub dma-goes : (base : ℕ) (lent : Lent) (act : Act (Unit {0})) (k : Core) (x : Arrays) (t t′ : List ℕ) (w j : List ℕ) (at : ℕ) {o : Out (Unit {0})}
@@ -252,9 +262,14 @@ pub stored-settled : (base : ℕ) (lent : Lent) (act : Act (Unit {0})) (d : Devi
     → Settles k (Going (record { scalars = k .scalars; at = used })) s → Does act d (whole k x) → Settled k x (Going (record { scalars = k .scalars; at = used })) s base lent act d w j w j used
 stored-settled base lent act d k x w j used s p fits settles does = settles x base lent act d w j w j used p fits (does-goes base lent act d k x w j used does)
 
-pub pending-does : (k : Core) (x : Arrays) (q : List ℕ) (ch count : ℕ) → count < 2 ^ 32 → Does (setPending ch count) (whole k (counted x q)) (whole k (counted x (set q ch count)))
-unfolding setPending bitsOf
-pending-does k x q ch count h = does-put (whole k (counted x q)) (PENDING ch) count h
+-- there are 64 counts
+pub counts-long : (k : Core) (x : Arrays) (q : List ℕ) → Proper (whole k (counted x q)) → length q ≡ 64
+counts-long k x q p = same-pending k (counted x q) p Full [] .long
+
+pub pending-does : (k : Core) (x : Arrays) (q : List ℕ) (ch count : ℕ) → getD q ch 0 + count < 2 ^ 32
+    → Does (addPending ch count) (whole k (counted x q)) (whole k (counted x (set q ch (getD q ch 0 + count))))
+unfolding addPending bitsOf
+pending-does k x q ch count h = does-change (whole k (counted x q)) (PENDING ch) (λ old. old + count) h
 
 module _ (k : Core) (s : Reached) (x : Arrays) (q q′ : List ℕ) (used : ℕ) (j : List ℕ) (act : Act (Unit {0})) (p : Proper (whole k (counted x q))) (fits : used ≤ length j)
     (settles : Settles k (Going (record { scalars = k .scalars; at = used })) s) (does : Does act (whole k (counted x q)) (whole k (counted x q′)))
@@ -274,9 +289,12 @@ module _ (k : Core) (s : Reached) (x : Arrays) (q q′ : List ℕ) (used : ℕ) 
         → toldDone Heard.Nothing r (counted x q′) w staging j₃ ≡ toldAfter staging used (perform base lends (levelled act) (worldOf (whole k (counted x q)) w j used))
     counts-made v = told-made k (counted x q) (counted x q′) Heard.Nothing used w j w j j₃ fits (went .since) base lends (levelled act) s n (went .later) (went .left) noted r is staging v
 
-    pub counts-unmade : {why : Refusal} {j₄ : List ℕ} → r .verdict ≡ Verdict.Refused why → j₄ ≡ clearedFrom used j₃
-        → toldDone Heard.Nothing r (counted x q) w staging j₄ ≡ toldAfter staging used (perform base lends (levelled act) (worldOf (whole k (counted x q)) w j used))
-    counts-unmade v c = told-cleared k (counted x q) (counted x q′) Heard.Nothing used w j w j j₃ fits (went .since) base lends (levelled act) s n (went .later) (went .left) noted r is staging v c
+    -- the counts are put back
+    pub counts-unmade : {why : Refusal} {q₄ j₄ : List ℕ} → r .verdict ≡ Verdict.Refused why → q₄ ≡ q → j₄ ≡ clearedFrom used j₃
+        → toldDone Heard.Nothing r (counted x q₄) w staging j₄ ≡ toldAfter staging used (perform base lends (levelled act) (worldOf (whole k (counted x q)) w j used))
+    counts-unmade v e c =
+        rw e
+        (told-cleared k (counted x q) (counted x q′) Heard.Nothing used w j w j j₃ fits (went .since) base lends (levelled act) s n (went .later) (went .left) noted r is staging v c)
 
 -- ---- acknowledge
 

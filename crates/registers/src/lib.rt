@@ -312,7 +312,8 @@ pub fn inputs(
     }
 }
 
-// "Pending: stores a 32-bit count for one channel".
+// "Pending: stores a 32-bit count for one channel", which "shall add to the count that stands" ([1]). No other count can have changed, so one is kept
+// and one is noted.
 pub fn pending_in(
     k: Core,
     channel: u32,
@@ -329,18 +330,22 @@ pub fn pending_in(
     if 63 < channel {
         return refused(k, Refusal::Channel, used);
     }
-    let before = *pending;
-    pending[channel as usize] = count;
+    let before = pending[channel as usize];
+    if asking::bad_sum(before, count) {
+        return refused(k, Refusal::Count, used);
+    }
+    let after = before + count;
+    pending[channel as usize] = after;
     let scalars = k.scalars;
     let s = acting::settle(k, Step::Going(Flow { scalars, at: used }));
     let core = s.core;
     let walk = s.walk;
     let numbers = closing::note_core(acting::begun(walk), k, core, journal);
-    let counts = closing::note_pending(numbers, &before, pending, journal);
+    let counts = closing::note_count(numbers, channel, before, after, journal);
     let r = acting::done(k, s, closing::note_end(counts, used, journal), used);
     let verdict = r.verdict;
     let Verdict::Accepted = verdict else {
-        *pending = before;
+        pending[channel as usize] = before;
         acting::clear(journal, used);
         return r;
     };

@@ -5,14 +5,13 @@ use mathlib.Core.Option.{Option}
 use Prim.Native.Nat.{ℕ, zero, suc, _-_}
 use lib.Dec.{eqb, ltb}
 use lib.ListN.{getD}
-use Rattle.rules.specs.Act.{Act, Space, window, table, MASKS, FORCED, LINES, CONFIG, PENDING, TAKEN, SOURCE, IGNORE, nothing}
-use Rattle.rules.specs.Scalars.{CR, ERQ, EEI, INT, ERR, KICK, LEVEL, STANDING}
-use Rattle.rules.specs.Calls.{setInputs, setPending, orNothing, levelled}
-use Rattle.rules.specs.Lines.{Found, sources, levelBytes, levelOf, relevel, heardFrom, hear, acknowledge}
+use Rattle.rules.specs.Act.{Act, Space, window, table, MASKS, FORCED, CONFIG, SOURCE, nothing}
+use Rattle.rules.specs.Scalars.{CR, ERQ, EEI, INT, ERR, KICK}
+use Rattle.rules.specs.Calls.{orNothing}
 use Rattle.rules.specs.Registers.{within, inTable, flagOne, flagEach, setRequests, setStarts, clearDones, command, commands, tableWrite, Arm, pick, dmaArms, dmaWrite, levelsWrite, controllerArms, controllerWrite}
-use Rattle.rules.specs.Run.{waiting, requesting}
 use Rattle.rules.specs.Words.{has}
-use Rattle.rules.proofs.Each.{Rights, Each, at-done, _>>=_, _>>_, each-fetch, each-store, each-ask, each-put, each-change, each-look, each-when, each-cond}
+use Rattle.rules.proofs.Each.{Rights, Each, at-done, _>>=_, _>>_, each-fetch, each-store, each-put, each-change, each-when}
+use Rattle.rules.proofs.Pieces.{requesting-each}
 
 infixr 20 _also_
 -- not in the window
@@ -35,98 +34,6 @@ abbrev acts : List Arm → List (Act (Unit {0}))
 acts [] = []
 acts (a ∷ row) = a .does ∷ acts row
 
--- ---- what the acts of the register calls do
-
-waiting-aside : (left ch m : ℕ) → Each aside (waiting left ch m)
-unfolding waiting
-waiting-aside zero ch m = at-done
-waiting-aside (suc left) ch m = do
-  count ← each-ask (PENDING ch)
-  waiting-aside left (suc ch) _
-
-requesting-aside : Each aside requesting
-unfolding requesting
-requesting-aside = do
-  standing ← each-ask STANDING
-  waiting-aside 64 0 standing
-
-sources-aside : (c : ℕ) → Each aside (sources c)
-unfolding sources
-sources-aside c = do
-  ignore ← each-look IGNORE
-  lines ← each-ask (LINES c)
-  masks ← each-ask (MASKS c)
-  forced ← each-ask (FORCED c)
-  at-done
-
-levels-aside : (c left s : ℕ) → Each aside (levelBytes c left s)
-unfolding levelBytes
-levels-aside c zero s = at-done
-levels-aside c (suc left) s = do
-  l ← each-ask (SOURCE c s)
-  rest ← levels-aside c left (suc s)
-  at-done
-
-level-aside : (c : ℕ) → Each aside (levelOf c)
-unfolding levelOf
-level-aside c = do
-  m ← sources-aside c
-  levels ← levels-aside c 64 0
-  at-done
-
-relevel-aside : Each aside relevel
-unfolding relevel
-relevel-aside = do
-  int ← each-ask INT
-  each-change (LINES 0) _ tt
-  each-change (LINES 1) _ tt
-  each-change (LINES 2) _ tt
-  l0 ← level-aside 0
-  l1 ← level-aside 1
-  l2 ← level-aside 2
-  each-put LEVEL _ tt
-
-pub levelled-aside : (m : Act (Unit {0})) → Each aside m → Each aside (levelled m)
-unfolding levelled
-levelled-aside m p = do
-  p
-  relevel-aside
-  at-done
-
--- ---- inputs, pending, acknowledge
-
-pub inputs-aside : (standing l0 l1 l2 : ℕ) → Each aside (setInputs standing l0 l1 l2)
-unfolding setInputs
-inputs-aside standing l0 l1 l2 = do
-  each-put STANDING standing tt
-  each-change (LINES 0) _ tt
-  each-change (LINES 1) _ tt
-  each-change (LINES 2) _ tt
-  erq ← each-ask ERQ
-  asking ← requesting-aside
-  each-change KICK _ tt
-
-pub pending-aside : (ch count : ℕ) → Each aside (setPending ch count)
-unfolding setPending
-pending-aside ch count = each-put (PENDING ch) count tt
-
-heard-aside : (ipl c : ℕ) (below : Found) → Each aside (heardFrom ipl c below)
-unfolding heardFrom
-heard-aside ipl c below = do
-  m ← sources-aside c
-  levels ← levels-aside c 64 0
-  at-done
-
-pub acknowledge-aside : (ipl : ℕ) → Each aside (acknowledge ipl)
-unfolding acknowledge hear
-acknowledge-aside ipl = do
-  h0 ← heard-aside ipl 0 (0, 0)
-  h1 ← heard-aside ipl 1 h0
-  h2 ← heard-aside ipl 2 h1
-  each-cond (eqb (h2 .0) 0) (λ _. at-done) (λ _. do
-    each-change (TAKEN (h2 .1)) _ tt
-    at-done)
-
 -- ---- registers
 
 flags-aside : (g : ℕ → ℕ) (m left ch : ℕ) → Each aside (flagEach g m left ch)
@@ -142,7 +49,7 @@ set-requests-aside : (v : ℕ) → Each aside (setRequests v)
 unfolding setRequests
 set-requests-aside v = do
   each-change ERQ _ tt
-  asking ← requesting-aside
+  asking ← requesting-each
   each-change KICK _ tt
 
 set-starts-aside : (v : ℕ) → Each aside (setStarts v)

@@ -9,7 +9,7 @@ use lib.Seq.{length-take-le, take-append-seam, drop-append-seam}
 use Rattle.rules.specs.Act.{Act, done}
 use Rattle.rules.specs.Carry.{World, After, made, unmade, cleared, perform, lending, Lent}
 use Rattle.rules.specs.TakeBack.{takeBack}
-use Rattle.rules.specs.Calls.{Asked, actOf, wrong, wrongBack, told, stagingAfter, worldOf, toldAfter, after, heardNothing, afterBack, afterRead}
+use Rattle.rules.specs.Calls.{Asked, actOf, wrong, stops, wrongBack, told, stagingAfter, worldOf, toldAfter, after, heardNothing, afterBack, afterRead}
 use Rattle.rules.specs.declared.Heard.{Heard}
 use Rattle.rules.specs.declared.Heard.the-variants as Heard
 use Rattle.rules.proofs.Free.{Seen, seen, Agree}
@@ -65,7 +65,7 @@ refusal (suc n) = some (suc n)
 
 -- what keeps a call from being made before anything is done
 abbrev before : ℕ → RowCall → World → Option ℕ
-before base (act c staging) u = refusal (wrong base (length (u .now .mem)) (total u) (length (u .used)) c)
+before base (act c staging) u = refusal (stops base (length (u .now .mem)) (total u) (length (u .used)) c (u .now .dev))
 before base (read address size) u = some (readNumber (afterRead (u .now .dev) address size))
 before base (amiss c b window staging journal used bad) u = some (wrong b (length window) (length journal) used c)
 before base (amissBack b window journal used bad) u = some (wrongBack b (length window) (length journal) used)
@@ -73,7 +73,7 @@ before base (amissBack b window journal used bad) u = some (wrongBack b (length 
 pub before-same : (base : ℕ) (c : RowCall) (u v : World) → Agree u v → before base c u ≡ before base c v
 before-same base (act c staging) u v h = λ i.
     let s = h .seen-is i in
-    refusal (wrong base (length (s .now .mem)) (length (s .used) + h .room-is i) (length (s .used)) c)
+    refusal (stops base (length (s .now .mem)) (length (s .used) + h .room-is i) (length (s .used)) c (s .now .dev))
 before-same base (read address size) u v h = ap (λ (s : Seen). some (readNumber (afterRead (s .now .dev) address size))) (h .seen-is)
 before-same base (amiss c b window staging journal used bad) u v h = refl
 before-same base (amissBack b window journal used bad) u v h = refl
@@ -106,11 +106,11 @@ module _ (base : ℕ) (c : Asked) (staging : List ℕ) (u : World) where
   act-through : ended (after c base (u .now .dev) (u .now .mem) staging (u .used ++ u .free) (length (u .used))) ≡ carried (λ a. a) heldOf (makeCall base (callOf base (act c staging)) u)
   unfolding after makeCall
   act-through =
-      subst₂ (λ n v. ended (elim (wrong base (length (u .now .mem)) n (length (u .used)) c) [
+      subst₂ (λ n v. ended (elim (stops base (length (u .now .mem)) n (length (u .used)) c (u .now .dev)) [
         | zero ↦ toldAfter (stagingAfter c staging) (length (u .used)) (perform base (lending (length staging)) (actOf c) v)
         | suc n ↦ told (suc n) Heard.Nothing (u .now .dev) (u .now .mem) staging (u .used ++ u .free) (length (u .used))
       ]) ≡ carried (λ a. a) heldOf (makeCall base (callOf base (act c staging)) u))
-      (sym (length-append (u .used) (u .free))) (sym (world-held u)) (by-number (wrong base (length (u .now .mem)) (total u) (length (u .used)) c))
+      (sym (length-append (u .used) (u .free))) (sym (world-held u)) (by-number (stops base (length (u .now .mem)) (total u) (length (u .used)) c (u .now .dev)))
     where
       by-number : (n : ℕ)
           → ended (elim n [

@@ -13,7 +13,7 @@ use Rattle.rules.specs.Act.{Act, Endless, _>>=_}
 use Rattle.rules.specs.With.{withTable}
 use Rattle.rules.specs.Carry.{Machine, World, ok, no, linesOf, go, After, made, unmade, lastLines, cleared, leave, perform, undo, lending}
 use Rattle.rules.specs.TakeBack.{decodeAll, takeBack}
-use Rattle.rules.specs.Calls.{Asked, write, inputs, pending, run, service, ack, actOf, badWindow, badJournal, check, wrong, wrongBack, Told, told, stagingAfter, worldOf, toldAfter, after, heardNothing, afterBack, ToldRead, toldRead, afterRead}
+use Rattle.rules.specs.Calls.{Asked, write, inputs, pending, run, service, ack, actOf, badWindow, badJournal, check, wrong, first, barred, stops, wrongBack, Told, told, stagingAfter, worldOf, toldAfter, after, heardNothing, afterBack, ToldRead, toldRead, afterRead}
 use Rattle.rules.specs.State.{Device}
 use Rattle.rules.specs.declared.Heard.{Heard}
 use Rattle.rules.specs.declared.Heard.the-variants as Heard
@@ -44,13 +44,38 @@ told-parts e = (cc, cc, cc, cc, cc, cc, cc)
 pub read-parts : {n n′ value value′ : ℕ} → toldRead n value ≡ toldRead n′ value′ → (n ≡ n′) × (value ≡ value′)
 read-parts e = (cc, cc)
 
--- ---- refusals 1 to 8: nothing is done
+-- ---- what stops a call
+
+-- 1 to 8 are looked at before what the device holds
+pub wrong-first : (base window journal used n : ℕ) (c : Asked) (d : Device) → wrong base window journal used c ≡ suc n → stops base window journal used c d ≡ suc n
+unfolding stops first
+wrong-first base window journal used n c d e = rw e
+
+pub barred-next : (base window journal used : ℕ) (c : Asked) (d : Device) → wrong base window journal used c ≡ 0 → stops base window journal used c d ≡ barred c d
+unfolding stops first
+barred-next base window journal used c d e = rw e
+
+-- a call that is not stopped has nothing wrong with its arguments, nor does the device bar it
+first-none : (m n : ℕ) → first m n ≡ 0 → (m ≡ 0) × (n ≡ 0)
+unfolding first
+first-none zero n e = (refl, e)
+first-none (suc m) n e = absurd (omega arith)
+
+pub not-stopped : (base window journal used : ℕ) (c : Asked) (d : Device) → stops base window journal used c d ≡ 0 → (wrong base window journal used c ≡ 0) × (barred c d ≡ 0)
+unfolding stops
+not-stopped base window journal used c d = first-none (wrong base window journal used c) (barred c d)
+
+-- ---- a call that is stopped: nothing is done
 
 module _ (base : ℕ) (d : Device) (window journal : List ℕ) (used n : ℕ) where
-  pub act-wrong : (c : Asked) (staging : List ℕ) → wrong base (length window) (length journal) used c ≡ suc n
+  pub act-stopped : (c : Asked) (staging : List ℕ) → stops base (length window) (length journal) used c d ≡ suc n
       → after c base d window staging journal used ≡ told (suc n) Heard.Nothing d window staging journal used
   unfolding after
-  act-wrong c staging e = rw (e, after)
+  act-stopped c staging e = rw (e, after)
+
+  pub act-wrong : (c : Asked) (staging : List ℕ) → wrong base (length window) (length journal) used c ≡ suc n
+      → after c base d window staging journal used ≡ told (suc n) Heard.Nothing d window staging journal used
+  act-wrong c staging e = act-stopped c staging (wrong-first base (length window) (length journal) used n c d e)
 
   pub back-wrong : wrongBack base (length window) (length journal) used ≡ suc n
       → afterBack base d window journal used ≡ told (suc n) Heard.Nothing d window [] journal used
@@ -79,7 +104,7 @@ length-cleared used journal =
 module _ (base : ℕ) (d : Device) (window journal : List ℕ) (used : ℕ) where
   pub act-as-given : (c : Asked) (staging : List ℕ) → AsGiven d window journal used (after c base d window staging journal used)
   unfolding after
-  act-as-given c staging = by-number (wrong base (length window) (length journal) used c)
+  act-as-given c staging = by-number (stops base (length window) (length journal) used c d)
     where
       u : World
       u = worldOf d window journal used
@@ -168,14 +193,14 @@ rolledBack base d used v =
     undo base (decodeAll ((length (v .used) - used) / 16) (drop used (v .used))) (record { mem = v .now .mem; dev = withTable d (v .now .dev .table) })
 
 module _ (c : Asked) (base : ℕ) (d : Device) (window staging journal : List ℕ) (used : ℕ) (good : Good base (record { mem = window; dev = d }))
-    (right : wrong base (length window) (length journal) used c ≡ 0)
+    (right : stops base (length window) (length journal) used c d ≡ 0)
   where
     records-undone : {A : Type 0} (m : Act A) (n : ℕ) (v : World) → go base (lending (length staging)) m (worldOf d window journal used) ≡ no n v
         → rolledBack base d used v ≡ record { mem = window; dev = d }
     records-undone m n v e =
         let r = rolled-back base (worldOf d window journal used) good (lending (length staging)) m n v e in
         let log = r .0 in
-        let front : length (take used journal) ≡ used = length-take-le used journal (used-within base (length window) (length journal) used c right) in
+        let front : length (take used journal) ≡ used = length-take-le used journal (used-within base (length window) (length journal) used c (not-stopped base (length window) (length journal) used c d right .0)) in
         let count : (length (v .used) - used) / 16 ≡ length log =
         ap (λ x. (x - used) / 16) (ap length (r .1) ∙ length-append (take used journal) (linesOf log) ∙ ap₂ (λ x y. x + y) front (length-lines log))
         ∙ ap (λ x. x / 16) (omega arith) ∙ mul-div-cancel (length log) (lit< tt) in

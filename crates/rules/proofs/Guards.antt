@@ -10,22 +10,22 @@ use lib.Count.{trailingZeros, under}
 use lib.Dec.{eqb, leb, ltb, lit<}
 use lib.ListN.{getD, length}
 use borrow.Author.Tests.{eqb-false, eqb-true, leb-true, ltb-false, not-false}
-use Rattle.rules.specs.Act.{Act, Done, Endless, Stage, Fetch, Store, Ask, Put, Look, Space, window, table, nothing, MASKS, FORCED, LINES, CONFIG, BUSY, MAJORS, PENDING, SOURCE, TAKEN, IGNORE}
-use Rattle.rules.specs.Scalars.{CR, ERQ, EEI, INT, ERR, KICK, DEFERRED, DEADLINE, LEVEL, STANDING}
+use Rattle.rules.specs.Act.{Act, Done, Endless, Stage, Fetch, Store, Ask, Put, Look, Space, window, table, nothing, MASKS, FORCED, CONFIG, BUSY, MAJORS, PENDING, SOURCE}
+use Rattle.rules.specs.Scalars.{CR, ERQ, EEI, INT, ERR, KICK, DEFERRED, DEADLINE, STANDING}
 use Rattle.rules.specs.Fields.{bitsOf, holds, settingOf}
 use Rattle.rules.specs.Carry.{World, Out, ok, no, there, legal, fetched, recorded, go, Lent}
 use Rattle.rules.specs.Words.{has, lowest}
 use Rattle.rules.specs.Minor.{START, DONE, descriptor, pass}
-use Rattle.rules.specs.Run.{requests, offered, waiting, requesting, startLoop, lineLoop, serveLine, requestLoop, startPasses, linePasses, requestPasses, serve, turn, turns, runTurns, runAll, release, serviceAll}
-use Rattle.rules.specs.Lines.{sources, levelBytes, levelOf, relevel, heardFrom, Found, hear, acknowledge}
+use Rattle.rules.specs.Run.{requests, offered, startLoop, lineLoop, serveLine, requestLoop, startPasses, linePasses, requestPasses, serve, turn, turns, runTurns, runAll, release, serviceAll}
 use Rattle.rules.specs.Registers.{within, inTable, blockOf, offsetOf, flagOne, flagEach, setRequests, setStarts, clearDones, command, commands, tableWrite, Arm, pick, dmaArms, dmaWrite, levelsWrite, controllerArms, controllerWrite, writeIn, writeAt, pastTable, pastWord, inBlocks}
-use Rattle.rules.specs.Calls.{setInputs, setPending, orNothing, Asked, write, inputs, pending, run, service, ack, levelled, actOf, badSize, isNone, wrong}
+use Rattle.rules.specs.Calls.{addPending, orNothing, Asked, write, inputs, pending, run, service, ack, actOf, badSize, isNone, wrong}
 use Rattle.rules.proofs.BoolLaws.{and-left, and-right, or-either, neither}
 use Rattle.rules.proofs.CallLaws.{passed}
 use Rattle.rules.proofs.FieldLaws.{holds-fits}
 use Rattle.rules.proofs.Steps.{putting, in-table, fetch-inside}
-use Rattle.rules.proofs.Each.{Rights, Each, at-done, at-endless, at-stage, at-fetch, at-store, at-ask, at-put, at-look, _>>=_, _>>_, each-fetch, each-store, each-ask, each-asked, each-put, each-change, each-look, each-when, each-cond, Proper, proper-store, proper-put, fetched-length}
+use Rattle.rules.proofs.Each.{Rights, Each, at-done, at-endless, at-stage, at-fetch, at-store, at-ask, at-put, at-look, _>>=_, _>>_, each-fetch, each-store, each-ask, each-asked, each-put, each-change, each-when, each-cond, Proper, proper-store, proper-put, fetched-length}
 use Rattle.rules.proofs.PassLaws.{descriptor-each, pass-each}
+use Rattle.rules.proofs.Pieces.{requesting-each, levelled-each, acknowledge-each, inputs-each}
 
 infixr 20 _also_
 -- ---- the guards
@@ -168,83 +168,15 @@ release-guarded now (suc left) ch m = do
   _ ← each-when _ (λ _. each-put (BUSY ch) 0 tt)
   release-guarded now left (suc ch) _
 
-waiting-guarded : (left ch m : ℕ) → Each guarded (waiting left ch m)
-unfolding waiting
-waiting-guarded zero ch m = at-done
-waiting-guarded (suc left) ch m = do
-  count ← each-ask (PENDING ch)
-  waiting-guarded left (suc ch) _
-
-requesting-guarded : Each guarded requesting
-unfolding requesting
-requesting-guarded = do
-  standing ← each-ask STANDING
-  waiting-guarded 64 0 standing
-
 service-guarded : (now pace : ℕ) → Each guarded (serviceAll now pace)
 unfolding serviceAll guarded
 service-guarded now pace = do
   back ← release-guarded now 64 0 0
   deferred ← each-ask DEFERRED
-  asking ← requesting-guarded
+  asking ← requesting-each
   each-put DEFERRED 0 tt
   each-change KICK _ tt
   run-guarded now pace
-
--- ---- lines, level, acknowledge
-
-sources-guarded : (c : ℕ) → Each guarded (sources c)
-unfolding sources
-sources-guarded c = do
-  ignore ← each-look IGNORE
-  lines ← each-ask (LINES c)
-  masks ← each-ask (MASKS c)
-  forced ← each-ask (FORCED c)
-  at-done
-
-levels-guarded : (c left s : ℕ) → Each guarded (levelBytes c left s)
-unfolding levelBytes
-levels-guarded c zero s = at-done
-levels-guarded c (suc left) s = do
-  l ← each-ask (SOURCE c s)
-  rest ← levels-guarded c left (suc s)
-  at-done
-
-level-guarded : (c : ℕ) → Each guarded (levelOf c)
-unfolding levelOf
-level-guarded c = do
-  m ← sources-guarded c
-  levels ← levels-guarded c 64 0
-  at-done
-
-relevel-guarded : Each guarded relevel
-unfolding relevel guarded
-relevel-guarded = do
-  int ← each-ask INT
-  each-change (LINES 0) _ tt
-  each-change (LINES 1) _ tt
-  each-change (LINES 2) _ tt
-  l0 ← level-guarded 0
-  l1 ← level-guarded 1
-  l2 ← level-guarded 2
-  each-put LEVEL _ tt
-
-heard-guarded : (ipl c : ℕ) (below : Found) → Each guarded (heardFrom ipl c below)
-unfolding heardFrom
-heard-guarded ipl c below = do
-  m ← sources-guarded c
-  levels ← levels-guarded c 64 0
-  at-done
-
-acknowledge-guarded : (ipl : ℕ) → Each guarded (acknowledge ipl)
-unfolding acknowledge hear guarded
-acknowledge-guarded ipl = do
-  h0 ← heard-guarded ipl 0 (0, 0)
-  h1 ← heard-guarded ipl 1 h0
-  h2 ← heard-guarded ipl 2 h1
-  each-cond (eqb (h2 .0) 0) (λ _. at-done) (λ _. do
-    each-change (TAKEN (h2 .1)) _ tt
-    at-done)
 
 -- ---- registers
 
@@ -266,7 +198,7 @@ set-requests-guarded : (v : ℕ) → Each guarded (setRequests v)
 unfolding setRequests guarded
 set-requests-guarded v = do
   each-change ERQ _ tt
-  asking ← requesting-guarded
+  asking ← requesting-each
   each-change KICK _ tt
 
 set-starts-guarded : (v : ℕ) → Each guarded (setStarts v)
@@ -387,24 +319,6 @@ write-guarded (suc c) off size v l h = controller-guarded c off size v
 
 -- ---- the calls
 
-levelled-guarded : (m : Act (Unit {0})) → Each guarded m → Each guarded (levelled m)
-unfolding levelled
-levelled-guarded m p = do
-  p
-  relevel-guarded
-  at-done
-
-inputs-guarded : (standing l0 l1 l2 : ℕ) → Each guarded (setInputs standing l0 l1 l2)
-unfolding setInputs guarded
-inputs-guarded standing l0 l1 l2 = do
-  each-put STANDING standing tt
-  each-change (LINES 0) _ tt
-  each-change (LINES 1) _ tt
-  each-change (LINES 2) _ tt
-  erq ← each-ask ERQ
-  asking ← requesting-guarded
-  each-change KICK _ tt
-
 size-legal : (size : ℕ) → badSize size ≡ false → legal table size ≡ true
 unfolding badSize legal
 size-legal size e =
@@ -419,19 +333,19 @@ not-past address size e b t = ltb-false 0x1800 (offsetOf address + size) (rw (b,
 
 -- of every call that refusals 1 to 8 do not refuse
 pub call-guarded : (base mem journal used : ℕ) (c : Asked) → wrong base mem journal used c ≡ 0 → Each guarded (actOf c)
-unfolding actOf wrong writeAt setPending guarded
+unfolding actOf wrong writeAt addPending guarded
 call-guarded base mem journal used (write address size v) e =
     let one = passed (badSize size) 0 _ e in
     let two = passed (not (inBlocks address)) 1 _ (one .1) in
     let three = passed (isNone (writeAt address size v)) 2 _ (two .1) in
     let four = passed (pastTable address size || pastWord address size) 3 _ (three .1) in
-    levelled-guarded _
+    levelled-each (λ c. tt) tt _
     (write-guarded (blockOf address) (offsetOf address) size v (size-legal size (one .0)) (not-past address size (neither _ _ (four .0) .0)))
-call-guarded base mem journal used (inputs standing l0 l1 l2) e = levelled-guarded _ (inputs-guarded standing l0 l1 l2)
-call-guarded base mem journal used (pending ch count) e = levelled-guarded _ (each-put (PENDING ch) count tt)
-call-guarded base mem journal used (run now pace) e = levelled-guarded _ (run-guarded now pace)
-call-guarded base mem journal used (service now pace) e = levelled-guarded _ (service-guarded now pace)
-call-guarded base mem journal used (ack ipl) e = acknowledge-guarded ipl
+call-guarded base mem journal used (inputs standing l0 l1 l2) e = levelled-each (λ c. tt) tt _ (inputs-each (λ f. tt) standing l0 l1 l2)
+call-guarded base mem journal used (pending ch count) e = levelled-each (λ c. tt) tt _ (each-change (PENDING ch) _ tt)
+call-guarded base mem journal used (run now pace) e = levelled-each (λ c. tt) tt _ (run-guarded now pace)
+call-guarded base mem journal used (service now pace) e = levelled-each (λ c. tt) tt _ (service-guarded now pace)
+call-guarded base mem journal used (ack ipl) e = acknowledge-each (λ i. tt) ipl
 
 -- ---- an act carried out without these tests
 

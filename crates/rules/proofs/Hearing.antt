@@ -6,10 +6,10 @@ use Prim.Native.Nat.{ℕ, zero, suc, _+_, _*_, _≤_, _<_}
 use native.Mathlib.Nat.{mod-lt}
 use native.Mathlib.Omega.{arith}
 use borrow.Author.Tests.{eqb-false}
-use lib.Dec.{eqb, leb, lit<, lit≤}
+use lib.Dec.{eqb, leb, lit<}
 use lib.ListN.{length, getD}
 use Rattle.rules.specs.Act.{Act, change, TAKEN}
-use Rattle.rules.specs.Calls.{Asked, write, inputs, pending, run, service, ack, levelled, actOf, wrong, wrongBack, told, heardTold, stagingAfter, worldOf, toldAfter, after, heardNothing, afterBack}
+use Rattle.rules.specs.Calls.{Asked, write, inputs, pending, run, service, ack, levelled, actOf, stops, wrongBack, told, heardTold, stagingAfter, worldOf, toldAfter, after, heardNothing, afterBack}
 use Rattle.rules.specs.Carry.{World, Out, ok, no, go, After, made, unmade, lastLines, written, cleared, leave, perform, Lent, lending}
 use Rattle.rules.specs.Lines.{sources, levelBytes, relevel, answers, Found, loudestAbove, above, heardFrom, hear, acknowledge}
 use Rattle.rules.specs.TakeBack.{takeBack}
@@ -87,7 +87,7 @@ module _ {base : ℕ} {lent : Lent} where
 
 pub act-hears : (c : Asked) (base : ℕ) (d : Device) (window staging journal : List ℕ) (used : ℕ) → Audible (heardTold (after c base d window staging journal used))
 unfolding after perform leave toldAfter
-act-hears c base d window staging journal used = by-number (wrong base (length window) (length journal) used c)
+act-hears c base d window staging journal used = by-number (stops base (length window) (length journal) used c d)
   where
     u : World
     u = worldOf d window journal used

@@ -14,10 +14,11 @@ pub mod Same
 pub mod Numbers
 pub mod Typed
 pub mod ViewLaws
--- an act's steps: one by one, what every act keeps, what each may do, where it leads
+-- an act's steps: one by one, what every act keeps, what each may do (and pieces that calls share), where it leads
 pub mod Steps
 pub mod Keeps
 pub mod Each
+pub mod Pieces
 pub mod Leads
 pub mod Grown
 -- undoing: one record, a group, an act that is refused, an act that is taken back
@@ -39,6 +40,7 @@ pub mod CallLaws
 pub mod Told
 pub mod Aside
 pub mod Refusals
+pub mod Added
 pub mod Stays
 pub mod Hearing
 -- demand 1: no test of the rules is left out or made in vain, and every call ends

@@ -3,13 +3,13 @@
 use mathlib.Core.Bool.{Bool, true, false, not, _||_}
 use mathlib.Core.List.{List, [], _∷_}
 use mathlib.Core.Path.{_≡_, refl, sym, ap, _∙_, subst}
-use Prim.Native.Nat.{ℕ, zero, suc, _%_, _^_, _≤_}
+use Prim.Native.Nat.{ℕ, zero, suc, _+_, _-_, _%_, _^_, _≤_}
 use native.Mathlib.Omega.{arith}
 use borrow.Author.Tests.{eqb-true, eqb-false}
 use lib.Dec.{eqb, leb, ltb}
 use lib.ListN.{length}
-use Rattle.rules.specs.Act.{Act, table}
-use Rattle.rules.specs.Calls.{Asked, write, inputs, pending, run, service, ack, orNothing, actOf, badSize, isNone, badWindow, badJournal, badTime, check, wrong, wrongBack, wrongRead, told, numberTold, stagingAfter, worldOf, toldAfter, after, heardNothing, afterBack, toldRead, orZero, afterRead}
+use Rattle.rules.specs.Act.{Act, table, PENDING}
+use Rattle.rules.specs.Calls.{Asked, write, inputs, pending, run, service, ack, addPending, orNothing, actOf, badSize, isNone, badWindow, badJournal, badTime, badSum, check, wrong, first, barred, stops, wrongBack, wrongRead, told, numberTold, stagingAfter, worldOf, toldAfter, after, heardNothing, afterBack, toldRead, orZero, afterRead}
 use Rattle.rules.specs.Carry.{World, Out, ok, no, recorded, After, made, unmade, lastLines, written, cleared, leave, perform, go, Lent, lending}
 use Rattle.rules.specs.Fields.{bitsOf, holds, settingOf}
 use Rattle.rules.specs.Registers.{inBlocks, blockOf, offsetOf, writeIn, writeAt, readAt, pastTable, pastWord}
@@ -18,11 +18,13 @@ use Rattle.rules.specs.State.{Device}
 use Rattle.rules.specs.declared.Heard.{Heard}
 use Rattle.rules.specs.declared.Heard.the-variants as Heard
 use Rattle.rules.proofs.Bench.{readNumber}
-use Rattle.rules.proofs.Each.{Each, at-done, at-endless, at-stage, at-fetch, at-store, at-ask, at-put, at-look, Proper, proper-store, proper-put, fetched-length}
+use Rattle.rules.proofs.CallLaws.{not-stopped}
+use Rattle.rules.proofs.Each.{Each, at-done, at-endless, at-stage, at-fetch, at-store, at-ask, at-put, at-look, each-change, Proper, proper-store, proper-put, fetched-length}
 use Rattle.rules.proofs.FieldLaws.{holds-fits}
 use Rattle.rules.proofs.Guards.{goBare, call-bare}
 use Rattle.rules.proofs.Lasts.{act-number, back-refused}
-use Rattle.rules.proofs.Aside.{aside, levelled-aside, inputs-aside, pending-aside, acknowledge-aside, dma-aside, controller-aside}
+use Rattle.rules.proofs.Aside.{aside, dma-aside, controller-aside}
+use Rattle.rules.proofs.Pieces.{levelled-each, acknowledge-each, inputs-each}
 use Rattle.rules.proofs.Steps.{putting}
 
 -- ---- the numbers, 0 for accepted
@@ -30,7 +32,7 @@ use Rattle.rules.proofs.Steps.{putting}
 unfoldable pub numbersOf : Asked → List ℕ
 numbersOf (write address size v) = 0 ∷ 1 ∷ 2 ∷ 3 ∷ 4 ∷ 6 ∷ 11 ∷ []
 numbersOf (inputs standing l0 l1 l2) = 0 ∷ 6 ∷ 11 ∷ []
-numbersOf (pending ch count) = 0 ∷ 6 ∷ 8 ∷ 11 ∷ []
+numbersOf (pending ch count) = 0 ∷ 6 ∷ 8 ∷ 11 ∷ 14 ∷ []
 numbersOf (run now pace) = 0 ∷ 5 ∷ 6 ∷ 7 ∷ 9 ∷ 10 ∷ 11 ∷ []
 numbersOf (service now pace) = 0 ∷ 5 ∷ 6 ∷ 7 ∷ 9 ∷ 10 ∷ 11 ∷ []
 numbersOf (ack ipl) = 0 ∷ 6 ∷ 11 ∷ []
@@ -106,12 +108,12 @@ module _ (base : ℕ) (d : Device) (window journal : List ℕ) (used : ℕ) wher
   u : World
   u = worldOf d window journal used
 
-  -- of an outcome: refused by 1 to 8, or the act's
-  by-wrong : (c : Asked) (staging : List ℕ) (l : List ℕ) → among (wrong base (length window) (length journal) used c) l ≡ true
-      → (wrong base (length window) (length journal) used c ≡ 0 → among (numberOfEnd (perform base (lending (length staging)) (actOf c) u)) l ≡ true)
+  -- of an outcome: stopped, or the act's
+  by-stops : (c : Asked) (staging : List ℕ) (l : List ℕ) → among (stops base (length window) (length journal) used c d) l ≡ true
+      → (stops base (length window) (length journal) used c d ≡ 0 → among (numberOfEnd (perform base (lending (length staging)) (actOf c) u)) l ≡ true)
       → among (numberTold (after c base d window staging journal used)) l ≡ true
   unfolding after u
-  by-wrong c staging l p q = by-number (wrong base (length window) (length journal) used c) p q
+  by-stops c staging l p q = by-number (stops base (length window) (length journal) used c d) p q
     where
       by-number : (n : ℕ) → among n l ≡ true → (n ≡ 0 → among (numberOfEnd (perform base (lending (length staging)) (actOf c) u)) l ≡ true)
           → among (numberTold (elim n [
@@ -167,21 +169,40 @@ module _ (base : ℕ) (d : Device) (window journal : List ℕ) (used : ℕ) wher
   wrong-among (service now pace) = timed-among now pace (numbersOf (service now pace)) refl refl refl refl
   wrong-among (ack ipl) = check-among (badJournal (length journal) used) 6 0 (numbersOf (ack ipl)) refl refl
 
+  -- and what the device holds
+  barred-among : (c : Asked) → among (barred c d) (numbersOf c) ≡ true
+  unfolding barred numbersOf among
+  barred-among (write address size v) = refl
+  barred-among (inputs standing l0 l1 l2) = refl
+  barred-among (pending ch count) = check-among (badSum (holds (PENDING ch) d) count) 14 0 (numbersOf (pending ch count)) refl refl
+  barred-among (run now pace) = refl
+  barred-among (service now pace) = refl
+  barred-among (ack ipl) = refl
+
+  first-among : (m n : ℕ) (l : List ℕ) → among m l ≡ true → among n l ≡ true → among (first m n) l ≡ true
+  unfolding first
+  first-among zero n l p q = q
+  first-among (suc m) n l p q = p
+
+  stops-among : (c : Asked) → among (stops base (length window) (length journal) used c d) (numbersOf c) ≡ true
+  unfolding stops
+  stops-among c = first-among (wrong base (length window) (length journal) used c) (barred c d) (numbersOf c) (wrong-among c) (barred-among c)
+
   -- each act's number is 0 or one of its own
   pub act-numbers : (c : Asked) (staging : List ℕ) → Proper d → among (numberTold (after c base d window staging journal used)) (numbersOf c) ≡ true
-  unfolding numbersOf among actOf writeAt
-  act-numbers c staging p = by-wrong c staging (numbersOf c) (wrong-among c) (λ e. performed c e)
+  unfolding numbersOf among actOf addPending writeAt
+  act-numbers c staging p = by-stops c staging (numbersOf c) (stops-among c) (λ e. performed c (not-stopped base (length window) (length journal) used c d e .0))
     where
       performed : (c : Asked) → wrong base (length window) (length journal) used c ≡ 0 → among (numberOfEnd (perform base (lending (length staging)) (actOf c) u)) (numbersOf c) ≡ true
       performed (write address size v) e =
-          aside-among (write address size v) staging (numbersOf (write address size v)) refl refl (levelled-aside _ (write-aside (blockOf address) (offsetOf address) size v)) p e
+          aside-among (write address size v) staging (numbersOf (write address size v)) refl refl (levelled-each (λ c. tt) tt _ (write-aside (blockOf address) (offsetOf address) size v)) p e
       performed (inputs standing l0 l1 l2) e =
-          aside-among (inputs standing l0 l1 l2) staging (numbersOf (inputs standing l0 l1 l2)) refl refl (levelled-aside _ (inputs-aside standing l0 l1 l2)) p e
+          aside-among (inputs standing l0 l1 l2) staging (numbersOf (inputs standing l0 l1 l2)) refl refl (levelled-each (λ c. tt) tt _ (inputs-each (λ f. tt) standing l0 l1 l2)) p e
       performed (pending ch count) e =
-          aside-among (pending ch count) staging (numbersOf (pending ch count)) refl refl (levelled-aside _ (pending-aside ch count)) p e
+          aside-among (pending ch count) staging (numbersOf (pending ch count)) refl refl (levelled-each (λ c. tt) tt _ (each-change (PENDING ch) _ tt)) p e
       performed (run now pace) e = within-among (run now pace) staging (numbersOf (run now pace)) refl refl refl refl
       performed (service now pace) e = within-among (service now pace) staging (numbersOf (service now pace)) refl refl refl refl
-      performed (ack ipl) e = aside-among (ack ipl) staging (numbersOf (ack ipl)) refl refl (acknowledge-aside ipl) p e
+      performed (ack ipl) e = aside-among (ack ipl) staging (numbersOf (ack ipl)) refl refl (acknowledge-each (λ i. tt) ipl) p e
 
   args-among : among (wrongBack base (length window) (length journal) used) numbersOfBack ≡ true
   unfolding wrongBack among numbersOfBack

@@ -11,7 +11,7 @@ use lib.ListN.{length, take, drop}
 use lib.Pow.{pow-pos}
 use Rattle.rules.specs.Act.{Act, Space, window, table, Field, SCALAR, MASKS, FORCED, LINES, CONFIG, BUSY, MAJORS, PENDING, SOURCE, TAKEN}
 use Rattle.rules.specs.Bytes.{bytes, splice}
-use Rattle.rules.specs.Calls.{Asked, actOf, wrong, wrongBack, told, deviceTold, stagingAfter, worldOf, toldAfter, after, heardNothing, afterBack}
+use Rattle.rules.specs.Calls.{Asked, actOf, stops, wrongBack, told, deviceTold, stagingAfter, worldOf, toldAfter, after, heardNothing, afterBack}
 use Rattle.rules.specs.Carry.{Machine, World, Out, ok, no, bytesOf, withBytesOf, withDevice, indexOf, stored, recorded, go, After, made, unmade, lastLines, written, cleared, leave, perform, undoRec, undo, Lent, lending}
 use Rattle.rules.specs.Fields.{bitsOf, withField, fieldAt, withSome, fitsSome}
 use Rattle.rules.specs.TakeBack.{marked, kind, width, place, value, soundField, soundKind, sound, allSound, recOf, decode, decodeAll, takeBack}
@@ -90,7 +90,7 @@ module _ (P : Device → Type 0) (onTable : (i n v : ℕ) (d : Device) → P d �
     module _ (base : ℕ) (d : Device) (window journal : List ℕ) (used : ℕ) (p : P d) where
       act-stays : (c : Asked) (staging : List ℕ) → P (deviceTold (after c base d window staging journal used))
       unfolding after
-      act-stays c staging = by-number (wrong base (length window) (length journal) used c)
+      act-stays c staging = by-number (stops base (length window) (length journal) used c d)
         where
           by-number : (n : ℕ) → P (deviceTold (elim n [
             | zero ↦ toldAfter (stagingAfter c staging) used (perform base (lending (length staging)) (actOf c) (worldOf d window journal used))

@@ -2,7 +2,7 @@
 -- its outcome. Assumes nothing.
 use mathlib.Core.List.{List, [], _∷_, map}
 use mathlib.Core.Path.{_≡_, refl, sym, ap, ap₂, _∙_}
-use Prim.Native.Nat.{ℕ, _-_}
+use Prim.Native.Nat.{ℕ, suc, _-_}
 use native.Mathlib.Omega.{arith}
 use lib.ListN.{getD, drop}
 use Rattle.rules.specs.Calls.{refusalNumber, verdictNumber, toldActed, toldHeard, toldReading}
@@ -22,49 +22,48 @@ use Rattle.rules.proofs.ScalarLaws.{scalars-once}
 
 -- ---- the refusal of a number
 
+-- in the order of their numbers, from 1
 refusals : List Refusal
 refusals =
     Refusal.Size ∷ Refusal.Address ∷ Refusal.Register ∷ Refusal.Crossing ∷ Refusal.Window ∷ Refusal.Journal ∷ Refusal.Time ∷ Refusal.Channel ∷ Refusal.Outside
-    ∷ Refusal.Staging ∷ Refusal.Room ∷ Refusal.NothingStands ∷ Refusal.Damaged ∷ []
+    ∷ Refusal.Staging ∷ Refusal.Room ∷ Refusal.NothingStands ∷ Refusal.Damaged ∷ Refusal.Count ∷ []
 
--- the first one has number 1
 refusalAt : ℕ → Refusal
-refusalAt n = getD refusals (n - 1) Refusal.Size
+refusalAt n = getD refusals n Refusal.Size
 
-refusal-back : (r : Refusal) → refusalAt (refusalNumber r) ≡ r
+-- each has its number, and no other has it
+numbered : (r : Refusal) → (n : ℕ) × (refusalNumber r ≡ suc n) × (refusalAt n ≡ r)
 unfolding refusalAt refusals
-refusal-back Refusal.Size = refl
-refusal-back Refusal.Address = refl
-refusal-back Refusal.Register = refl
-refusal-back Refusal.Crossing = refl
-refusal-back Refusal.Window = refl
-refusal-back Refusal.Journal = refl
-refusal-back Refusal.Time = refl
-refusal-back Refusal.Channel = refl
-refusal-back Refusal.Outside = refl
-refusal-back Refusal.Staging = refl
-refusal-back Refusal.Room = refl
-refusal-back Refusal.NothingStands = refl
-refusal-back Refusal.Damaged = refl
+numbered Refusal.Size = (0, refl, refl)
+numbered Refusal.Address = (1, refl, refl)
+numbered Refusal.Register = (2, refl, refl)
+numbered Refusal.Crossing = (3, refl, refl)
+numbered Refusal.Window = (4, refl, refl)
+numbered Refusal.Journal = (5, refl, refl)
+numbered Refusal.Time = (6, refl, refl)
+numbered Refusal.Channel = (7, refl, refl)
+numbered Refusal.Outside = (8, refl, refl)
+numbered Refusal.Staging = (9, refl, refl)
+numbered Refusal.Room = (10, refl, refl)
+numbered Refusal.NothingStands = (11, refl, refl)
+numbered Refusal.Damaged = (12, refl, refl)
+numbered Refusal.Count = (13, refl, refl)
 
--- no refusal has number 0
+-- no number is 0
+pub refusal-suc : (r : Refusal) → (n : ℕ) × (refusalNumber r ≡ suc n)
+refusal-suc r = (numbered r .0, numbered r .1)
+
 refusal-counts : (r : Refusal) → refusalNumber r ≡ 0 → ⊥
-refusal-counts Refusal.Size e = omega arith
-refusal-counts Refusal.Address e = omega arith
-refusal-counts Refusal.Register e = omega arith
-refusal-counts Refusal.Crossing e = omega arith
-refusal-counts Refusal.Window e = omega arith
-refusal-counts Refusal.Journal e = omega arith
-refusal-counts Refusal.Time e = omega arith
-refusal-counts Refusal.Channel e = omega arith
-refusal-counts Refusal.Outside e = omega arith
-refusal-counts Refusal.Staging e = omega arith
-refusal-counts Refusal.Room e = omega arith
-refusal-counts Refusal.NothingStands e = omega arith
-refusal-counts Refusal.Damaged e = omega arith
+refusal-counts r e = omega (arith, refusal-suc r .1)
+
+refusal-back : (r : Refusal) → refusalAt (refusalNumber r - 1) ≡ r
+refusal-back r = ap (λ n. refusalAt (n - 1)) (numbered r .1) ∙ ap refusalAt (less-one (numbered r .0)) ∙ numbered r .2
+  where
+    less-one : (n : ℕ) → suc n - 1 ≡ n
+    less-one n = omega arith
 
 refusal-once : (r s : Refusal) → refusalNumber r ≡ refusalNumber s → r ≡ s
-refusal-once r s e = sym (refusal-back r) ∙ ap refusalAt e ∙ refusal-back s
+refusal-once r s e = sym (refusal-back r) ∙ ap (λ n. refusalAt (n - 1)) e ∙ refusal-back s
 
 verdict-once : (v w : Verdict) → verdictNumber v ≡ verdictNumber w → v ≡ w
 verdict-once Verdict.Accepted Verdict.Accepted e = refl

@@ -1,5 +1,5 @@
--- Document 01, "The calls" and "Refusal numbers": what each call is given, what refuses it before anything is done, its act, and all that is
--- there after it. Assumes nothing.
+-- Document 01, "The calls" and "Refusal numbers", with document 02's [1]: what each call is given, what refuses it before anything is done, its
+-- act, and all that is there after it. Assumes nothing.
 use mathlib.Core.Bool.{Bool, true, false, not, _||_}
 use mathlib.Core.List.{List, [], _∷_, _++_}
 use mathlib.Core.Option.{Option, none, some}
@@ -9,7 +9,7 @@ use lib.Dec.{eqb, ltb}
 use lib.ListN.{length, replicate, take, drop}
 use Rattle.rules.specs.Act.{Act, done, nothing, ask, put, change, _>>=_, _>>_, LINES, PENDING}
 use Rattle.rules.specs.Scalars.{ERQ, KICK, DEADLINE, STANDING, scalarBits}
-use Rattle.rules.specs.Fields.{withField}
+use Rattle.rules.specs.Fields.{holds, withField}
 use Rattle.rules.specs.Carry.{World, After, made, unmade, perform, lending}
 use Rattle.rules.specs.TakeBack.{takeBack}
 use Rattle.rules.specs.Run.{requesting, runAll, serviceAll}
@@ -44,6 +44,7 @@ refusalNumber Refusal.Staging = 10
 refusalNumber Refusal.Room = 11
 refusalNumber Refusal.NothingStands = 12
 refusalNumber Refusal.Damaged = 13
+refusalNumber Refusal.Count = 14
 
 -- 0: accepted
 abbrev pub verdictNumber : Verdict → ℕ
@@ -98,9 +99,9 @@ setInputs standing l0 l1 l2 = do
   asking ← requesting
   change KICK (λ k. bitOr k (bitAnd asking erq))
 
--- stores a 32-bit count for one channel
-unfoldable pub setPending : ℕ → ℕ → Act (Unit {0})
-setPending ch count = put (PENDING ch) count
+-- adds a 32-bit count to the one that stands for one channel ([1])
+unfoldable pub addPending : ℕ → ℕ → Act (Unit {0})
+addPending ch count = change (PENDING ch) (λ old. old + count)
 
 unfoldable pub orNothing : Option (Act (Unit {0})) → Act (Unit {0})
 orNothing none = nothing
@@ -130,12 +131,12 @@ levelled m = do
 unfoldable pub actOf : Asked → Act Heard
 actOf (write address size v) = levelled (orNothing (writeAt address size v))
 actOf (inputs standing l0 l1 l2) = levelled (setInputs standing l0 l1 l2)
-actOf (pending ch count) = levelled (setPending ch count)
+actOf (pending ch count) = levelled (addPending ch count)
 actOf (run now pace) = levelled (runAll now pace)
 actOf (service now pace) = levelled (serviceAll now pace)
 actOf (ack ipl) = acknowledge ipl
 
--- ---- refusals 1 to 8, in number order
+-- ---- refusals before anything is done: 1 to 8, for the arguments, in number order; then 14, for what the device holds
 
 unfoldable pub badSize : ℕ → Bool
 badSize size = not (eqb size 1 || eqb size 2 || eqb size 4)
@@ -155,10 +156,28 @@ badJournal len used = ltb (2 ^ 28) len || not (eqb (used % 16) 0) || ltb len use
 unfoldable pub badTime : ℕ → ℕ → Bool
 badTime now pace = ltb (2 ^ 62) now || ltb 1000000 pace
 
+-- the sum would pass 2^32 - 1 ([1])
+unfoldable pub badSum : ℕ → ℕ → Bool
+badSum standing count = ltb (2 ^ 32 - 1) (standing + count)
+
 -- the number, if the test holds; else what comes after it. 0: nothing is wrong
 unfoldable pub check : Bool → ℕ → ℕ → ℕ
 check true n next = n
 check false n next = next
+
+-- the first of two numbers that is not 0
+unfoldable pub first : ℕ → ℕ → ℕ
+first zero n = n
+first (suc m) n = suc m
+
+-- what bars a call: 14, of the count that stands for the channel and the one to be added
+unfoldable pub barred : Asked → Device → ℕ
+barred (write address size v) d = 0
+barred (inputs standing l0 l1 l2) d = 0
+barred (pending ch count) d = check (badSum (holds (PENDING ch) d) count) 14 0
+barred (run now pace) d = 0
+barred (service now pace) d = 0
+barred (ack ipl) d = 0
 
 -- base address, lengths of window and journal, used length
 module _ (base window journal used : ℕ) where
@@ -174,6 +193,10 @@ module _ (base window journal used : ℕ) where
   wrong (run now pace) = check (badWindow base window) 5 (check (badJournal journal used) 6 (check (badTime now pace) 7 0))
   wrong (service now pace) = check (badWindow base window) 5 (check (badJournal journal used) 6 (check (badTime now pace) 7 0))
   wrong (ack ipl) = check (badJournal journal used) 6 0
+
+  -- what stops a call before anything is done: something wrong with its arguments; then what the device holds
+  unfoldable pub stops : Asked → Device → ℕ
+  stops c d = first (wrong c) (barred c d)
 
   unfoldable pub wrongBack : ℕ
   wrongBack = check (badWindow base window) 5 (check (badJournal journal used) 6 0)
@@ -211,7 +234,7 @@ toldActed r window staging journal = told (verdictNumber (r .verdict)) Heard.Not
 abbrev pub toldHeard : Acknowledged → List ℕ → List ℕ → List ℕ → Told
 toldHeard r window staging journal = told (verdictNumber (r .verdict)) (r .heard) (view (r .device)) window staging journal (r .used)
 
--- staging is all zero after every run or service that is not refused by 1 to 8, and otherwise unchanged
+-- staging is all zero after every run or service that is not refused before anything is done, and otherwise unchanged
 unfoldable pub stagingAfter : Asked → List ℕ → List ℕ
 stagingAfter (write address size v) staging = staging
 stagingAfter (inputs standing l0 l1 l2) staging = staging
@@ -231,7 +254,7 @@ toldAfter staging used (unmade n u) = told n Heard.Nothing (u .now .dev) (u .now
 -- base address; device, window, staging, journal and used length as the call is given them
 unfoldable pub after : Asked → ℕ → Device → List ℕ → List ℕ → List ℕ → ℕ → Told
 after c base d window staging journal used =
-    elim (wrong base (length window) (length journal) used c) [
+    elim (stops base (length window) (length journal) used c d) [
       | zero ↦ toldAfter (stagingAfter c staging) used (perform base (lending (length staging)) (actOf c) (worldOf d window journal used))
       | suc n ↦ told (suc n) Heard.Nothing d window staging journal used
     ]
@@ -265,9 +288,9 @@ afterRead d address size =
 
 -- on an `unfolding` line: all the definitions of this file
 unfoldable pub refusals : Unit {0}
-unfolding badSize isNone badWindow badJournal badTime check wrong wrongBack wrongRead
+unfolding badSize isNone badWindow badJournal badTime badSum check wrong first barred stops wrongBack wrongRead
 refusals = tt
 
 unfoldable pub calls : Unit {0}
-unfolding refusals freshController fresh setInputs setPending orNothing levelled actOf stagingAfter toldAfter after heardNothing afterBack orZero afterRead
+unfolding refusals freshController fresh setInputs addPending orNothing levelled actOf stagingAfter toldAfter after heardNothing afterBack orZero afterRead
 calls = tt

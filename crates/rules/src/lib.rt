@@ -74,7 +74,7 @@ pub struct Device {
     pub ignore_masks: bool,
 }
 
-// Why a call is refused, in the order of document 01's numbers 1 to 13.
+// Why a call is refused, in the order of the documents' numbers: 1 to 13 of document 01, 14 of document 02.
 pub enum Refusal {
     Size,
     Address,
@@ -89,6 +89,7 @@ pub enum Refusal {
     Room,
     NothingStands,
     Damaged,
+    Count,
 }
 
 // How a call ends.

@@ -3,19 +3,20 @@
 -- Assumes nothing.
 use mathlib.Core.Path.{_≡_, ap, _∙_}
 use lib.ListN.{length}
-use Rattle.rules.specs.Calls.{Asked, Told, actOf, wrong, stagingAfter, worldOf, toldAfter, after}
+use Rattle.rules.specs.Calls.{Asked, Told, actOf, stops, stagingAfter, worldOf, toldAfter, after}
 use Rattle.rules.specs.Carry.{go, leave, perform, lending}
+use Rattle.rules.proofs.CallLaws.{not-stopped}
 use Rattle.rules.proofs.Each.{Proper}
 use Rattle.rules.proofs.Ends.{Limits, Enough, actOr, call-ends}
 use Rattle.walls.specs.Wrong.{Given, acts}
 
--- what a call leaves that is not refused by 1 to 8, with other limits
+-- what a call leaves that is not stopped before its act, with other limits
 unfoldable pub limited : Limits → Asked → Given → Told
 limited o c g =
     let u = worldOf (g .device) (g .window) (g .journal) (g .used) in
     toldAfter (stagingAfter c (g .staging)) (g .used) (leave u (go (g .base) (lending (length (g .staging))) (actOr o c) u))
 
-module _ (c : Asked) (g : Given) (right : wrong (g .base) (length (g .window)) (length (g .journal)) (g .used) c ≡ 0) where
+module _ (c : Asked) (g : Given) (right : stops (g .base) (length (g .window)) (length (g .journal)) (g .used) c (g .device) ≡ 0) where
   performed : acts c g
       ≡ toldAfter (stagingAfter c (g .staging)) (g .used) (perform (g .base) (lending (length (g .staging))) (actOf c) (worldOf (g .device) (g .window) (g .journal) (g .used)))
   unfolding acts after
@@ -28,4 +29,5 @@ module _ (c : Asked) (g : Given) (right : wrong (g .base) (length (g .window)) (
       let u = worldOf (g .device) (g .window) (g .journal) (g .used) in
       meets ∙ performed
       ∙ ap (λ x. toldAfter (stagingAfter c (g .staging)) (g .used) (leave u x))
-      (call-ends (g .base) (lending (length (g .staging))) o enough (g .device) (g .window) (g .journal) (g .used) c proper right)
+      (call-ends (g .base) (lending (length (g .staging))) o enough (g .device) (g .window) (g .journal) (g .used) c proper
+      (not-stopped (g .base) (length (g .window)) (length (g .journal)) (g .used) c (g .device) right .0))

@@ -3,6 +3,7 @@ pub mod EveryCall
 pub mod Moving
 pub mod Turning
 pub mod Leaving
+pub mod Adding
 pub mod Undoing
 pub mod EndCount
 pub mod Bounds

@@ -1,11 +1,13 @@
--- The wrong programs that document 01 names ("What the promises have to say"), as properties of any program for a call: from what the call is
--- asked and given to all that is there after it. And what shuts them out. A program is a function on all numbers and lists: what it does with those
--- that no caller can give is free. Assumes nothing.
+-- The wrong programs that document 01 names ("What the promises have to say"), and some that a request of document 02 calls wrong, as properties
+-- of any program for a call: from what the call is asked and given to all that is there after it. And what shuts them out. A program is a function
+-- on all numbers and lists: what it does with those that no caller can give is free. Assumes nothing.
 use mathlib.Core.List.{List, [], _∷_}
 use mathlib.Core.Logic.{_⊎_}
 use mathlib.Core.Path.{_≡_}
 use Prim.Native.Nat.{ℕ, _+_, _≤_, _<_}
 use lib.ListN.{getD}
+use Rattle.rules.specs.Act.{PENDING}
+use Rattle.rules.specs.Fields.{holds}
 use Rattle.rules.specs.Calls.{Asked, Told, told, ToldRead, heardLevel, heardVector, after, afterBack, write, inputs, pending, run, service, ack, numberTold, deviceTold, windowTold}
 use Rattle.rules.specs.State.{Device}
 use Rattle.rules.proofs.Bench.{readNumber}
@@ -69,6 +71,20 @@ module _ (program : Device → ℕ → ℕ → ToldRead) where
   -- one constant value
   unfoldable pub OneValue : Type 0
   OneValue = (d e : Device) (a b m n : ℕ) → program d a m ≡ program e b n
+
+-- ---- the pending call, of a channel and a count (document 02's [1])
+
+module _ (program : ℕ × ℕ → Given → Told) where
+  -- storing over the count that stands
+  unfoldable pub StoresOver : Type 0
+  StoresOver = (x : ℕ × ℕ) (g : Given) → numberTold (program x g) ≡ 0 → getD (deviceTold (program x g) .pending) (x .0) 0 ≡ x .1
+
+  -- refusing no sum; or every one to which both counts add
+  unfoldable pub TakesAnySum : Type 0
+  TakesAnySum = (x : ℕ × ℕ) (g : Given) → numberTold (program x g) ≡ 14 → ⊥
+
+  unfoldable pub TakesNoSum : Type 0
+  TakesNoSum = (x : ℕ × ℕ) (g : Given) → 0 < holds (PENDING (x .0)) (g .device) → 0 < x .1 → numberTold (program x g) ≡ 0 → ⊥
 
 -- ---- the calls, as their contracts have them
 

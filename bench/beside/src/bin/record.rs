@@ -103,7 +103,7 @@ fn made(
     may_leave: bool,
     state: &mut (Vec<u8>, Vec<u8>),
 ) -> Option<Vec<Row>> {
-    if call.early(0, 1, JOURNAL, 0).is_some() {
+    if call.early(0, 1, JOURNAL, 0).or_else(|| call.barred(&state.0)).is_some() {
         return None;
     }
     let mut answered = Answered::default();
