@@ -248,6 +248,18 @@ fn early_refusals() {
     println!("early refusals: {seen}");
 }
 
+/// A device with a journal of so many bytes, and a little memory.
+fn with_room(device: &kounpheray::Device, room: usize, used: u64) -> World {
+    World {
+        image: device.image(),
+        base: 0,
+        window: vec![1; 3],
+        staging: vec![2; 3],
+        journal: vec![3; room],
+        used,
+    }
+}
+
 /// Sums below, at and above 2^32 - 1, however they are made up: 14 exactly
 /// above, after 6 and 8 and before 11, and nothing is changed then. A count of
 /// 0 is accepted and writes its group.
@@ -273,14 +285,7 @@ fn sums_of_pending_counts() {
                     let number = if number != 6 && sum > u64::from(MOST) { 14 } else { number };
                     // Without a change the end record alone is written.
                     let number = if number == 11 && count == 0 && room > 32 { 0 } else { number };
-                    let mut world = World {
-                        image: device.image(),
-                        base: 0,
-                        window: vec![1; 3],
-                        staging: vec![2; 3],
-                        journal: vec![3; room],
-                        used,
-                    };
+                    let mut world = with_room(&device, room, used);
                     let call = Call::Pending { channel: channel.number().into(), count };
                     let answer = world.checked(call).unwrap_or_else(|told| panic!("{told}"));
                     assert_eq!(answer.status(), number, "{stands} and {count}, {used} of {room}");
@@ -293,14 +298,7 @@ fn sums_of_pending_counts() {
                     }
                 }
             }
-            let mut world = World {
-                image: device.image(),
-                base: 0,
-                window: vec![1; 3],
-                staging: Vec::new(),
-                journal: vec![3; 64],
-                used: 0,
-            };
+            let mut world = with_room(&device, 64, 0);
             let call = Call::Pending { channel: 64 + u32::from(channel.number()), count: MOST };
             assert_eq!(world.checked(call).map(|answer| answer.status()), Ok(8));
         }
@@ -324,14 +322,7 @@ fn rows_of_pending_counts() {
                 let stands = random.pick(&[0, 1, 1 << 31, MOST - 3, MOST - 1, MOST]);
                 device.set(Field::Pending(Channel::new(channel)), stands.into()).expect("it fits");
             }
-            let start = World {
-                image: device.image(),
-                base: 0,
-                window: vec![1; 16],
-                staging: Vec::new(),
-                journal: vec![3; room],
-                used: 0,
-            };
+            let start = with_room(&device, room, 0);
             let mut world = start.clone();
             let mut standing: Vec<Call> = Vec::new();
             for _ in 0..40 {

@@ -8,7 +8,7 @@ use borrow.Author.Tests.{ltb-false, eqb-true, not-false}
 use lib.Dec.{eqb, ltb}
 use lib.ListN.{length, take, drop, replicate, take-append-drop}
 use lib.Seq.{length-take-le, take-take}
-use Rattle.rules.specs.Calls.{toldActed, worldOf, badWindow, badJournal, check, wrongBack, toldAfter, heardNothing, told, afterBack}
+use Rattle.rules.specs.Calls.{toldActed, worldOf, badWindow, badJournal, check, wrongBack, toldAfter, heardNothing, told, unlessStopped, afterBack}
 use Rattle.rules.specs.Carry.{unmade, undo}
 use Rattle.rules.specs.TakeBack.{decodeAll, takeBack}
 use Rattle.rules.specs.declared.Acted.{Acted}
@@ -40,19 +40,19 @@ module _ (len used : ℕ) (fine : badJournal len used ≡ false) where
 module _ (base : ℕ) (d : HeldDevice) (w j : List ℕ) (used : ℕ) where
   pub bad-window : {r : Acted} → badWindow base (length w) ≡ true → r ≡ record { verdict = Verdict.Refused Refusal.Window; used = used; device = d }
       → toldActed r w [] j ≡ afterBack base (view d) w j used
-  unfolding afterBack wrongBack check
-  bad-window e h = rw (h, e, afterBack)
+  unfolding afterBack unlessStopped wrongBack check
+  bad-window e h = rw (h, e)
 
   module _ (window-fine : badWindow base (length w) ≡ false) where
     pub bad-journal : {r : Acted} → badJournal (length j) used ≡ true → r ≡ record { verdict = Verdict.Refused Refusal.Journal; used = used; device = d }
         → toldActed r w [] j ≡ afterBack base (view d) w j used
-    unfolding afterBack wrongBack check
-    bad-journal e h = rw (h, window-fine, e, afterBack)
+    unfolding afterBack unlessStopped wrongBack check
+    bad-journal e h = rw (h, window-fine, e)
 
     module _ (journal-fine : badJournal (length j) used ≡ false) where
       tested : afterBack base (view d) w j used ≡ toldAfter [] used (heardNothing (takeBack base (worldOf (view d) w j used)))
-      unfolding afterBack wrongBack check
-      tested = rw (window-fine, journal-fine, afterBack)
+      unfolding afterBack unlessStopped wrongBack check
+      tested = rw (window-fine, journal-fine)
 
       unmade-as : (n : ℕ) → takeBack base (worldOf (view d) w j used) ≡ unmade n (worldOf (view d) w j used) → told n Heard.Nothing (view d) w [] j used ≡ afterBack base (view d) w j used
       unfolding toldAfter heardNothing

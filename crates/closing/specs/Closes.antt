@@ -48,9 +48,9 @@ pub record Part (m n : ℕ) (b a : List ℕ) (s r : Noted) (j j′ : List ℕ) :
   pub long-now : length a ≡ m
   pub noted : Notes n b a s r j j′
 
--- of one channel's count, b at the act's entry and a now: all the counts, of which no other was changed
-abbrev pub NotesCount : ℕ → ℕ → ℕ → Noted → Noted → List ℕ → List ℕ → Type 0
-NotesCount ch b a s r j j′ = (counts : List ℕ) → length counts ≡ 64 → getD counts ch 0 ≡ b → Part 64 192 counts (set counts ch a) s r j j′
+-- of m fields from number n on, field i, b at the act's entry and a now, where no other was changed
+abbrev pub NotesOne : ℕ → ℕ → ℕ → ℕ → ℕ → Noted → Noted → List ℕ → List ℕ → Type 0
+NotesOne m n i b a s r j j′ = (xs : List ℕ) → length xs ≡ m → getD xs i 0 ≡ b → Part m n xs (set xs i a) s r j j′
 
 -- what is asked of the two arrays: as long as each other, and numbers that a record's place can hold
 pub record Noteworthy (n : ℕ) (b a : List ℕ) : Type 0 where

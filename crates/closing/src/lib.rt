@@ -18,7 +18,7 @@ ghost use Rattle.rules.proofs.Each.{Proper};
 ghost use Rattle.act.specs.Lent.{_⇒_};
 ghost use Rattle.act.specs.Parts.{Arrays, whole, SameLevels};
 ghost use Rattle.closing.specs.declared.Noted.the-variants.{At};
-ghost use Rattle.closing.specs.Closes.{noting, add, addEnd, Notes, NotesCount, Part, Noteworthy, coreIn, levelsIn};
+ghost use Rattle.closing.specs.Closes.{noting, add, addEnd, Notes, NotesOne, Part, Noteworthy, coreIn, levelsIn};
 
 // Where the next record goes, or that one did not fit: then nothing more happens.
 pub enum Noted {
@@ -329,7 +329,7 @@ pub fn note_pending(s: Noted, before: &[u32; 64], after: &[u32; 64], journal: &m
 // The same of an act that can have changed the count of one channel alone.
 pub fn note_count(s: Noted, channel: u32, before: u32, after: u32, journal: &mut [u8]) -> Noted
     requires { ⌜ channel < 64 ⌝ }
-    ensures { λ r. ⌜ NotesCount channel before after s r ⇒ journal ⌝ }
+    ensures { λ r. ⌜ NotesOne 64 192 channel before after s r ⇒ journal ⌝ }
 {
     note_field(s, 192 + channel, wide32(before), wide32(after), journal)
 }

@@ -2,16 +2,17 @@
 use mathlib.Core.Bool.{true, false}
 use mathlib.Core.List.{List}
 use mathlib.Core.Path.{_≡_, refl}
-use Prim.Native.Nat.{ℕ, zero, suc, _%_, _^_}
+use Prim.Native.Nat.{ℕ, _%_, _^_}
 use lib.Dec.{leb}
 use lib.ListN.{length}
 use Rattle.rules.specs.Act.{Field, SCALAR, MASKS, FORCED, LINES, CONFIG, BUSY, MAJORS, PENDING, SOURCE, TAKEN}
-use Rattle.rules.specs.Calls.{ack, stops, actOf, stagingAfter, told, deviceTold, toldAfter, worldOf, after}
+use Rattle.rules.specs.Calls.{ack, stops, actOf, deviceTold, toldAfter, worldOf, after}
 use Rattle.rules.specs.Carry.{World, Out, ok, no, made, unmade, withDevice, lastLines, written, cleared, leave, perform, lending}
 use Rattle.rules.specs.Fields.{bitsOf}
 use Rattle.rules.specs.State.{Device}
 use Rattle.rules.specs.declared.Heard.{Heard}
 use Rattle.rules.specs.declared.Heard.the-variants as Heard
+use Rattle.rules.proofs.CallLaws.{either-way}
 use Rattle.rules.proofs.Each.{Rights, Proper, Properly, each-keeps}
 use Rattle.rules.proofs.Keeps.{AtEnd}
 use Rattle.rules.proofs.Pieces.{acknowledge-each}
@@ -68,13 +69,7 @@ module _ (d : Device) where
   module _ (base : ℕ) (window staging journal : List ℕ) (used ipl : ℕ) (proper : Proper d) where
     pub ack-keeps : As (deviceTold (after (ack ipl) base d window staging journal used))
     unfolding after perform actOf
-    ack-keeps = by-number (stops base (length window) (length journal) used (ack ipl) d)
-      where
-        by-number : (n : ℕ) → As (deviceTold (elim n [
-          | zero ↦ toldAfter (stagingAfter (ack ipl) staging) used (perform base (lending (length staging)) (actOf (ack ipl)) (worldOf d window journal used))
-          | suc n ↦ told (suc n) Heard.Nothing d window staging journal used
-        ]))
-        by-number zero =
-            ended (worldOf d window journal used) _ _ used (refl, refl)
-            (each-keeps base (lending (length staging)) counting On (λ sp a n v u q h. absurd h) on-put (acknowledge-each (λ i. tt) ipl) (worldOf d window journal used) (proper, (refl, refl)))
-        by-number (suc n) = (refl, refl)
+    ack-keeps =
+        either-way (λ t. As (deviceTold t)) d window staging journal used (stops base (length window) (length journal) used (ack ipl) d) (λ k _. (refl, refl))
+        (λ _. ended (worldOf d window journal used) _ _ used (refl, refl)
+        (each-keeps base (lending (length staging)) counting On (λ sp a n v u q h. absurd h) on-put (acknowledge-each (λ i. tt) ipl) (worldOf d window journal used) (proper, (refl, refl))))

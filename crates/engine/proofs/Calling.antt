@@ -4,7 +4,7 @@ use mathlib.Core.List.{List}
 use mathlib.Core.Path.{_≡_, refl, sym, ap, _∙_}
 use Prim.Native.Nat.{ℕ, suc}
 use lib.ListN.{length, replicate}
-use Rattle.rules.specs.Calls.{Asked, run, service, Told, told, verdictNumber, levelled, actOf, wrong, first, barred, stops, stagingAfter, worldOf, toldAfter, after}
+use Rattle.rules.specs.Calls.{Asked, run, service, Told, told, verdictNumber, levelled, actOf, wrong, first, barred, stops, stagingAfter, worldOf, toldAfter, unlessStopped, after}
 use Rattle.rules.specs.Carry.{perform, lending}
 use Rattle.rules.specs.Run.{runAll, serviceAll}
 use Rattle.rules.specs.State.{Device}
@@ -37,14 +37,14 @@ module _ (base : ℕ) (d : Device) (w s j : List ℕ) (used : ℕ) where
     run-told : wrong base (length w) (length j) used (run time pace) ≡ 0
         → x ≡ toldAfter (replicate (length s) 0) used (perform base (lending (length s)) (levelled (runAll time pace)) (worldOf d w j used))
         → x ≡ after (run time pace) base d w s j used
-    unfolding after stops first barred stagingAfter actOf
-    run-told e q = q ∙ sym (rw (e, after))
+    unfolding after unlessStopped stops first barred stagingAfter actOf
+    run-told e q = q ∙ sym (rw e)
 
     service-told : wrong base (length w) (length j) used (service time pace) ≡ 0
         → x ≡ toldAfter (replicate (length s) 0) used (perform base (lending (length s)) (levelled (serviceAll time pace)) (worldOf d w j used))
         → x ≡ after (service time pace) base d w s j used
-    unfolding after stops first barred stagingAfter actOf
-    service-told e q = q ∙ sym (rw (e, after))
+    unfolding after unlessStopped stops first barred stagingAfter actOf
+    service-told e q = q ∙ sym (rw e)
 
     pub asked-told : (again : Bool) → wrong base (length w) (length j) used (run time pace) ≡ 0
         → x ≡ toldAfter (replicate (length s) 0) used (perform base (lending (length s)) (levelled (turnsOf again time pace)) (worldOf d w j used))

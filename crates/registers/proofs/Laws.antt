@@ -10,7 +10,7 @@ use lib.Dec.{eqb, ltb}
 use lib.ListN.{length, getD, set, take, drop}
 use lib.Seq.{set-getD, set-set}
 use Rattle.rules.specs.Act.{Act, PENDING}
-use Rattle.rules.specs.Calls.{Asked, write, actOf, addPending, badSize, badJournal, badSum, isNone, orNothing, check, wrong, first, barred, stops, wrongRead, levelled, Told, told, toldAfter, stagingAfter, toldReading, toldRead, refusalNumber, orZero, worldOf, after, afterRead}
+use Rattle.rules.specs.Calls.{Asked, write, actOf, addPending, badSize, badJournal, badSum, isNone, orNothing, check, wrong, first, barred, stops, wrongRead, levelled, Told, told, toldAfter, stagingAfter, toldReading, refusalNumber, worldOf, unlessStopped, after, readUnless, afterRead}
 use Rattle.rules.specs.Carry.{Out, ok, changed, go, leave, perform, Lent, lending}
 use Rattle.rules.specs.Fields.{bitsOf, fieldsOf}
 use Rattle.rules.specs.Registers.{within, inBlocks, inTable, blockOf, offsetOf, dmaRead, dmaWrite, readIn, readAt, writeIn, writeAt, controllerWrite, pastTable, pastWord}
@@ -42,7 +42,7 @@ use Rattle.acting.proofs.Laws.{told-made, told-cleared, does-goes, counts-noted
 use Rattle.intc.specs.Writes.{InWord}
 use Rattle.masks.proofs.Ranges.{within-true}
 use Rattle.dma_read.specs.Access.{Fair}
-use Rattle.registers.specs.Asked.{pastEnd, pastPart, readSo, answered}
+use Rattle.registers.specs.Asked.{pastEnd, pastPart, answered}
 
 -- ---- tests
 
@@ -143,11 +143,11 @@ module _ (does : Option (Act (Unit {0}))) (past bad : Bool) where
 
 module _ (m : Act Heard) (base : ℕ) (d : Device) (w staging j : List ℕ) (used : ℕ) where
   told-no : (why : Refusal) → told (refusalNumber why) Heard.Nothing d w staging j used ≡ answered (refusalNumber why) m base d w staging j used
-  unfolding answered
+  unfolding answered unlessStopped
   told-no why = rw (refusal-suc why .1) refl
 
   pub accepts : {n : ℕ} {x : Told} → n ≡ 0 → x ≡ toldAfter staging used (perform base (lending (length staging)) m (worldOf d w j used)) → x ≡ answered n m base d w staging j used
-  unfolding answered
+  unfolding answered unlessStopped
   accepts e q = rw e q
 
 -- of a device in parts
@@ -159,14 +159,7 @@ refuses m base k x w staging j used why e f = rw (e, f) (told-no m base (whole k
 pub stopped-after : (c : Asked) (base : ℕ) (d : Device) (w staging j : List ℕ) (used : ℕ) → stagingAfter c staging ≡ staging
     → answered (stops base (length w) (length j) used c d) (actOf c) base d w staging j used ≡ after c base d w staging j used
 unfolding answered after
-stopped-after c base d w staging j used e = by (stops base (length w) (length j) used c d)
-  where
-    by : (n : ℕ) → answered n (actOf c) base d w staging j used ≡ elim n [
-      | zero ↦ toldAfter (stagingAfter c staging) used (perform base (lending (length staging)) (actOf c) (worldOf d w j used))
-      | suc k ↦ told (suc k) Heard.Nothing d w staging j used
-    ]
-    by zero = rw e refl
-    by (suc k) = refl
+stopped-after c base d w staging j used e = rw e refl
 
 -- and that no device bars
 pub asked-after : (c : Asked) (base : ℕ) (d : Device) (w staging j : List ℕ) (used : ℕ) → stagingAfter c staging ≡ staging → barred c d ≡ 0
@@ -227,33 +220,25 @@ module _ (d : Device) (address size : ℕ) where
   abbrev place : ℕ
   place = address % 0x4000
 
-  after-read : readSo (wrongRead d address size) (readAt d address size) ≡ afterRead d address size
-  unfolding afterRead readSo
-  after-read = by (wrongRead d address size)
-    where
-      by : (n : ℕ) → readSo n (readAt d address size) ≡ elim n [ zero ↦ toldRead 0 (orZero (readAt d address size)) | suc k ↦ toldRead (suc k) 0 ]
-      by zero = refl
-      by (suc k) = refl
-
   pub read-no-size : badSize size ≡ true → toldReading (Reading.Refused Refusal.Size) ≡ afterRead d address size
-  unfolding wrongRead check readSo
-  read-no-size e = rw (← after-read, e)
+  unfolding afterRead wrongRead check readUnless
+  read-no-size e = rw e
 
   module _ (s : badSize size ≡ false) where
     pub read-no-block : inBlocks address ≡ false → toldReading (Reading.Refused Refusal.Address) ≡ afterRead d address size
-    unfolding wrongRead check readSo
-    read-no-block e = rw (← after-read, s, e)
+    unfolding afterRead wrongRead check readUnless
+    read-no-block e = rw (s, e)
 
     module _ (b : inBlocks address ≡ true) where
       pub read-dma-after : blockOf address ≡ 0
-          → readSo (check (isNone (dmaRead d place size)) 3 (check (pastEnd place size) 4 0)) (dmaRead d place size) ≡ afterRead d address size
-      unfolding wrongRead check readAt readIn offsetOf pastTable pastEnd
-      read-dma-after z = rw (← after-read, s, b, z)
+          → readUnless (check (isNone (dmaRead d place size)) 3 (check (pastEnd place size) 4 0)) (dmaRead d place size) ≡ afterRead d address size
+      unfolding afterRead wrongRead check readAt readIn offsetOf pastTable pastEnd
+      read-dma-after z = rw (s, b, z)
 
       pub read-controller-after : (c : ℕ) → blockOf address ≡ suc c
-          → readSo (check (isNone (readIn d (suc c) place size)) 3 0) (readIn d (suc c) place size) ≡ afterRead d address size
-      unfolding wrongRead check readAt offsetOf pastTable
-      read-controller-after c z = rw (← after-read, s, b, z, ne-eqb (suc c) 0 (λ e. omega arith))
+          → readUnless (check (isNone (readIn d (suc c) place size)) 3 0) (readIn d (suc c) place size) ≡ afterRead d address size
+      unfolding afterRead wrongRead check readAt offsetOf pastTable
+      read-controller-after c z = rw (s, b, z, ne-eqb (suc c) 0 (λ e. omega arith))
 
 -- ---- acts on a device in parts, from what their steps and their last records ensure
 

@@ -3,11 +3,11 @@ use mathlib.Core.Bool.{Bool, false, _&&_}
 use mathlib.Core.List.{List}
 use mathlib.Core.Option.{Option}
 use mathlib.Core.Path.{_≡_}
-use Prim.Native.Nat.{ℕ, zero, suc, _+_, _%_}
+use Prim.Native.Nat.{ℕ, _+_, _%_}
 use lib.Dec.{ltb}
 use lib.ListN.{length}
 use Rattle.rules.specs.Act.{Act}
-use Rattle.rules.specs.Calls.{Asked, ack, badJournal, isNone, orNothing, check, levelled, Told, told, toldActed, toldHeard, toldAfter, ToldRead, toldRead, orZero, worldOf, after}
+use Rattle.rules.specs.Calls.{Asked, ack, badJournal, isNone, orNothing, check, levelled, Told, toldActed, toldHeard, toldAfter, unlessStopped, worldOf, after}
 use Rattle.rules.specs.Carry.{perform, lending}
 use Rattle.rules.specs.Registers.{within, inTable}
 use Rattle.rules.specs.declared.Acknowledged.{Acknowledged}
@@ -29,18 +29,11 @@ pastEnd off size = inTable off && ltb 0x1800 (off + size)
 unfoldable pub pastPart : ℕ → ℕ → Bool
 pastPart off size = within 0x08 0x17 off && ltb 4 (off % 4 + size)
 
--- ---- read: the number of what is wrong, 0 for nothing, and what stands there
-
-unfoldable pub readSo : ℕ → Option ℕ → ToldRead
-readSo zero o = toldRead 0 (orZero o)
-readSo (suc n) o = toldRead (suc n) 0
-
 -- ---- acts
 
 -- the number of what is wrong, 0 for nothing, and the act
 unfoldable pub answered : ℕ → Act Heard → ℕ → Device → List ℕ → List ℕ → List ℕ → ℕ → Told
-answered zero m base d w staging j used = toldAfter staging used (perform base (lending (length staging)) m (worldOf d w j used))
-answered (suc n) m base d w staging j used = told (suc n) Heard.Nothing d w staging j used
+answered n m base d w staging j used = unlessStopped d w staging j used n (toldAfter staging used (perform base (lending (length staging)) m (worldOf d w j used)))
 
 -- of a write within a block: what it does there, if there is such a register, and whether it is refused by 4
 abbrev pub Writes : Option (Act (Unit {0})) → Bool → Core → Done → Arrays → Arrays → List ℕ → List ℕ → ℕ → Type 0

@@ -24,12 +24,12 @@ ghost use Prim.Native.Nat.{suc, _≤_, _<_};
 ghost use lib.ListN.{length};
 ghost use Rattle.rules.specs.declared.Heard.the-variants as Heard;
 ghost use Rattle.rules.specs.View.{view};
-ghost use Rattle.rules.specs.Calls.{badSize, isNone, check, toldReading, afterRead, write as writeCall, inputs as inputsCall, pending as pendingCall, ack};
+ghost use Rattle.rules.specs.Calls.{badSize, isNone, check, toldReading, readUnless, afterRead, write as writeCall, inputs as inputsCall, pending as pendingCall, ack};
 ghost use Rattle.rules.specs.Registers.{inBlocks, blockOf, dmaRead, readIn, dmaWrite, controllerWrite};
 ghost use Rattle.act.specs.Lent.{_⇒_};
 ghost use Rattle.intc.specs.Cells.{reads};
 ghost use Rattle.act.specs.Parts.{Arrays, tabled, counted, taking, Calls};
-ghost use Rattle.registers.specs.Asked.{pastEnd, pastPart, readSo, Writes, Stores, Made, MadeHeard};
+ghost use Rattle.registers.specs.Asked.{pastEnd, pastPart, Writes, Stores, Made, MadeHeard};
 
 // ---- addresses
 
@@ -74,7 +74,7 @@ fn past_part(off: u32, size: u32) -> bool
 
 // 3: "no such register at that offset and size".
 fn reading(cell: Cell) -> Reading
-    ensures { λ r. ⌜ toldReading r ≡ readSo (check (isNone (reads cell)) 3 0) (reads cell) ⌝ }
+    ensures { λ r. ⌜ toldReading r ≡ readUnless (check (isNone (reads cell)) 3 0) (reads cell) ⌝ }
 {
     match cell {
         Cell::Value(v) => Reading::Value(v),
@@ -84,7 +84,7 @@ fn reading(cell: Cell) -> Reading
 
 fn read_dma(d: Device, off: u32, size: u32) -> Reading
     requires { ⌜ (off < 0x4000) × (badSize size ≡ false) ⌝ }
-    ensures { λ r. ⌜ toldReading r ≡ readSo (check (isNone (dmaRead (view d) off size)) 3 (check (pastEnd off size) 4 0)) (dmaRead (view d) off size) ⌝ }
+    ensures { λ r. ⌜ toldReading r ≡ readUnless (check (isNone (dmaRead (view d) off size)) 3 (check (pastEnd off size) 4 0)) (dmaRead (view d) off size) ⌝ }
 {
     if past_end(off, size) {
         return Reading::Refused(Refusal::Crossing);
@@ -94,7 +94,7 @@ fn read_dma(d: Device, off: u32, size: u32) -> Reading
 
 fn read_controller(d: Device, c: usize, off: u32, size: u32) -> Reading
     requires { ⌜ c < 3 ⌝ }
-    ensures { λ r. ⌜ toldReading r ≡ readSo (check (isNone (readIn (view d) (suc c) off size)) 3 0) (readIn (view d) (suc c) off size) ⌝ }
+    ensures { λ r. ⌜ toldReading r ≡ readUnless (check (isNone (readIn (view d) (suc c) off size)) 3 0) (readIn (view d) (suc c) off size) ⌝ }
 {
     let controllers = d.controllers;
     let k = controllers[c];

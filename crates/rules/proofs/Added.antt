@@ -17,7 +17,7 @@ use Rattle.rules.specs.Fields.{bitsOf, holds}
 use Rattle.rules.specs.State.{Device}
 use Rattle.rules.specs.declared.Heard.{Heard}
 use Rattle.rules.specs.declared.Heard.the-variants as Heard
-use Rattle.rules.proofs.CallLaws.{barred-next, not-stopped, act-stopped}
+use Rattle.rules.proofs.CallLaws.{barred-next, not-stopped, either-way, act-stopped}
 use Rattle.rules.proofs.Each.{Rights, at-done, Proper, Properly, each-keeps, proper-field}
 use Rattle.rules.proofs.Keeps.{AtEnd}
 use Rattle.rules.proofs.Lasts.{act-number}
@@ -89,22 +89,30 @@ module _ (base : ℕ) (d : Device) (window staging journal : List ℕ) (used ch 
   lent : Lent
   lent = lending (length staging)
 
-  barred-14 : 2 ^ 32 - 1 < sum → barred (pending ch count) d ≡ 14
-  unfolding barred badSum check
-  barred-14 l = rw (lt-ltb (2 ^ 32 - 1) sum l)
+  -- what bars the call, whether the sum passes or not
+  by-sum : (b : Bool) → ltb (2 ^ 32 - 1) sum ≡ b → barred (pending ch count) d ≡ check b 14 0
+  unfolding barred badSum
+  by-sum b e = ap (λ x. check x 14 0) e
 
-  barred-else : (b : Bool) → ltb (2 ^ 32 - 1) sum ≡ b → (n : ℕ) → check b 14 0 ≡ suc n → (suc n ≡ 14) × (2 ^ 32 - 1 < sum)
+  passes : (b : Bool) → ltb (2 ^ 32 - 1) sum ≡ b → check b 14 0 ≡ 14 → 2 ^ 32 - 1 < sum
   unfolding check
-  barred-else true e n f = (sym f, ltb-true (2 ^ 32 - 1) sum e)
-  barred-else false e n f = absurd (omega arith)
+  passes true e f = ltb-true (2 ^ 32 - 1) sum e
+  passes false e f = absurd (omega arith)
+
+  fits : (b : Bool) → ltb (2 ^ 32 - 1) sum ≡ b → check b 14 0 ≡ 0 → sum < 2 ^ 32
+  unfolding check
+  fits true e f = absurd (omega arith)
+  fits false e f = omega (arith, ltb-false (2 ^ 32 - 1) sum e)
 
   -- 14: all is as it was, staging and the journal's unused room too
   pub sum-refused : wrong base (length window) (length journal) used (pending ch count) ≡ 0 → 2 ^ 32 - 1 < sum
       → after (pending ch count) base d window staging journal used ≡ told 14 Heard.Nothing d window staging journal used
+  unfolding check
   sum-refused right l =
       act-stopped base d window journal used 13 (pending ch count) staging
-      (barred-next base (length window) (length journal) used (pending ch count) d right ∙ barred-14 l)
+      (barred-next base (length window) (length journal) used (pending ch count) d right ∙ by-sum true (lt-ltb (2 ^ 32 - 1) sum l))
 
+  -- neither 6 nor 8 is 14, nor is what an act is refused with
   not-otherwise : (a b : Bool) → check a 6 (check b 8 0) ≡ 14 → ⊥
   unfolding check
   not-otherwise true b e = omega arith
@@ -112,25 +120,20 @@ module _ (base : ℕ) (d : Device) (window staging journal : List ℕ) (used ch 
   not-otherwise false false e = omega arith
 
   stopped-14 : (m : ℕ) → wrong base (length window) (length journal) used (pending ch count) ≡ m → first m (barred (pending ch count) d) ≡ 14 → (m ≡ 0) × (2 ^ 32 - 1 < sum)
-  unfolding wrong first barred badSum
-  stopped-14 zero e f = (refl, barred-else (ltb (2 ^ 32 - 1) sum) refl 13 f .1)
+  unfolding wrong first
+  stopped-14 zero e f = let b = ltb (2 ^ 32 - 1) sum in (refl, passes b refl (sym (by-sum b refl) ∙ f))
   stopped-14 (suc m) e f = absurd (not-otherwise (badJournal (length journal) used) (ltb 63 ch) (e ∙ f))
 
   only-14 : numberTold (after (pending ch count) base d window staging journal used) ≡ 14 → stops base (length window) (length journal) used (pending ch count) d ≡ 14
   unfolding after toldAfter u lent
-  only-14 = by-number (stops base (length window) (length journal) used (pending ch count) d)
+  only-14 =
+      either-way (λ t. numberTold t ≡ 14 → stops base (length window) (length journal) used (pending ch count) d ≡ 14) d window staging journal used
+      (stops base (length window) (length journal) used (pending ch count) d) (λ k e f. e ∙ f) (λ e. by-end (perform base lent (actOf (pending ch count)) u) refl)
     where
-      by-end : (o : After Heard World) → perform base lent (actOf (pending ch count)) u ≡ o → numberTold (toldAfter (stagingAfter (pending ch count) staging) used o) ≡ 14 → _≡_ {A = ℕ} 0 14
-      by-end (made a v) e f = f
+      by-end : (o : After Heard World) → perform base lent (actOf (pending ch count)) u ≡ o → numberTold (toldAfter (stagingAfter (pending ch count) staging) used o) ≡ 14
+          → stops base (length window) (length journal) used (pending ch count) d ≡ 14
+      by-end (made a v) e f = absurd (omega arith)
       by-end (unmade n v) e f = absurd (omega (arith, act-number base lent (actOf (pending ch count)) u n v e .1))
-
-      by-number : (n : ℕ)
-          → numberTold (elim n [
-            | zero ↦ toldAfter (stagingAfter (pending ch count) staging) used (perform base lent (actOf (pending ch count)) u)
-            | suc n ↦ told (suc n) Heard.Nothing d window staging journal used
-          ]) ≡ 14 → n ≡ 14
-      by-number zero f = by-end (perform base lent (actOf (pending ch count)) u) refl f
-      by-number (suc n) f = f
 
   -- exactly then
   pub fourteen : (numberTold (after (pending ch count) base d window staging journal used) ≡ 14)
@@ -141,12 +144,6 @@ module _ (base : ℕ) (d : Device) (window staging journal : List ℕ) (used ch 
     λ h. ap numberTold (sum-refused (h .0) (h .1)),
   )
 
-  -- a count that may be added is not cut
-  barred-fits : (b : Bool) → ltb (2 ^ 32 - 1) sum ≡ b → check b 14 0 ≡ 0 → sum < 2 ^ 32
-  unfolding check
-  barred-fits true e f = absurd (omega arith)
-  barred-fits false e f = omega (arith, ltb-false (2 ^ 32 - 1) sum e)
-
   -- the act, once the count is added
   added : sum < 2 ^ 32 → go base lent (actOf (pending ch count)) u ≡ go base lent (levelled nothing) (putting (PENDING ch) sum u)
   unfolding actOf addPending levelled acts go bitsOf u
@@ -155,27 +152,17 @@ module _ (base : ℕ) (d : Device) (window staging journal : List ℕ) (used ch 
   -- accepted: the counts are those that stood, but for the channel's, which is the sum
   pub count-added : Proper d → numberTold (after (pending ch count) base d window staging journal used) ≡ 0
       → deviceTold (after (pending ch count) base d window staging journal used) .pending ≡ set (d .pending) ch sum
-  unfolding after perform barred badSum withDevice bitsOf u lent
-  count-added p = by-number (stops base (length window) (length journal) used (pending ch count) d) refl
+  unfolding after perform withDevice bitsOf u lent
+  count-added p =
+      either-way (λ t. numberTold t ≡ 0 → deviceTold t .pending ≡ set (d .pending) ch sum) d window staging journal used
+      (stops base (length window) (length journal) used (pending ch count) d) (λ k _ f. absurd (omega arith))
+      (λ e. ended-counts (set (d .pending) ch sum) u (go base lent (actOf (pending ch count)) u) _ used (ends (uncut e))
+      (λ n v g. act-number base lent (actOf (pending ch count)) u n v g .0))
     where
-      here : stops base (length window) (length journal) used (pending ch count) d ≡ 0 → sum < 2 ^ 32
-      here e = barred-fits (ltb (2 ^ 32 - 1) sum) refl (not-stopped base (length window) (length journal) used (pending ch count) d e .1)
+      uncut : stops base (length window) (length journal) used (pending ch count) d ≡ 0 → sum < 2 ^ 32
+      uncut e = let b = ltb (2 ^ 32 - 1) sum in fits b refl (sym (by-sum b refl) ∙ not-stopped base (length window) (length journal) used (pending ch count) d e .1)
 
       ends : sum < 2 ^ 32 → AtEnd (Properly (Counts (set (d .pending) ch sum))) (go base lent (actOf (pending ch count)) u)
       ends l =
           subst (λ o. AtEnd (Properly (Counts (set (d .pending) ch sum))) o) (sym (added l))
           (levelled-counts (set (d .pending) ch sum) base lent (putting (PENDING ch) sum u) (proper-field (PENDING ch) sum d l p, refl))
-
-      by-number : (n : ℕ) → stops base (length window) (length journal) used (pending ch count) d ≡ n
-          → numberTold (elim n [
-            | zero ↦ toldAfter (stagingAfter (pending ch count) staging) used (perform base lent (actOf (pending ch count)) u)
-            | suc n ↦ told (suc n) Heard.Nothing d window staging journal used
-          ]) ≡ 0
-          → deviceTold (elim n [
-            | zero ↦ toldAfter (stagingAfter (pending ch count) staging) used (perform base lent (actOf (pending ch count)) u)
-            | suc n ↦ told (suc n) Heard.Nothing d window staging journal used
-          ]) .pending ≡ set (d .pending) ch sum
-      by-number zero e f =
-          ended-counts (set (d .pending) ch sum) u (go base lent (actOf (pending ch count)) u) _ used (ends (here e))
-          (λ n v g. act-number base lent (actOf (pending ch count)) u n v g .0) f
-      by-number (suc n) e f = absurd (omega arith)

@@ -9,7 +9,7 @@ use lib.Seq.{length-take-le, take-append-seam, drop-append-seam}
 use Rattle.rules.specs.Act.{Act, done}
 use Rattle.rules.specs.Carry.{World, After, made, unmade, cleared, perform, lending, Lent}
 use Rattle.rules.specs.TakeBack.{takeBack}
-use Rattle.rules.specs.Calls.{Asked, actOf, wrong, stops, wrongBack, told, stagingAfter, worldOf, toldAfter, after, heardNothing, afterBack, afterRead}
+use Rattle.rules.specs.Calls.{Asked, actOf, wrong, stops, wrongBack, Told, stagingAfter, worldOf, toldAfter, unlessStopped, after, heardNothing, afterBack, afterRead}
 use Rattle.rules.specs.declared.Heard.{Heard}
 use Rattle.rules.specs.declared.Heard.the-variants as Heard
 use Rattle.rules.proofs.Free.{Seen, seen, Agree}
@@ -104,19 +104,17 @@ module _ (base : ℕ) (c : Asked) (staging : List ℕ) (u : World) where
       (sym (ap (λ (w : World). length (w .used)) (refused base (lending (length staging)) (actOf c) u (suc n) v e)))
 
   act-through : ended (after c base (u .now .dev) (u .now .mem) staging (u .used ++ u .free) (length (u .used))) ≡ carried (λ a. a) heldOf (makeCall base (callOf base (act c staging)) u)
-  unfolding after makeCall
+  unfolding after unlessStopped makeCall
   act-through =
-      subst₂ (λ n v. ended (elim (stops base (length (u .now .mem)) n (length (u .used)) c (u .now .dev)) [
-        | zero ↦ toldAfter (stagingAfter c staging) (length (u .used)) (perform base (lending (length staging)) (actOf c) v)
-        | suc n ↦ told (suc n) Heard.Nothing (u .now .dev) (u .now .mem) staging (u .used ++ u .free) (length (u .used))
-      ]) ≡ carried (λ a. a) heldOf (makeCall base (callOf base (act c staging)) u))
+      subst₂ (λ n v. ended (asTold (stops base (length (u .now .mem)) n (length (u .used)) c (u .now .dev)) v) ≡ carried (λ a. a) heldOf (makeCall base (callOf base (act c staging)) u))
       (sym (length-append (u .used) (u .free))) (sym (world-held u)) (by-number (stops base (length (u .now .mem)) (total u) (length (u .used)) c (u .now .dev)))
     where
-      by-number : (n : ℕ)
-          → ended (elim n [
-            | zero ↦ toldAfter (stagingAfter c staging) (length (u .used)) (perform base (lending (length staging)) (actOf c) u)
-            | suc n ↦ told (suc n) Heard.Nothing (u .now .dev) (u .now .mem) staging (u .used ++ u .free) (length (u .used))
-          ]) ≡ carried (λ a. a) heldOf (elim (refusal n) [ none ↦ perform base (lending (length staging)) (actOf c) u | some n ↦ unmade n u ])
+      asTold : ℕ → World → Told
+      asTold n v =
+          unlessStopped (u .now .dev) (u .now .mem) staging (u .used ++ u .free) (length (u .used)) n
+          (toldAfter (stagingAfter c staging) (length (u .used)) (perform base (lending (length staging)) (actOf c) v))
+
+      by-number : (n : ℕ) → ended (asTold n u) ≡ carried (λ a. a) heldOf (elim (refusal n) [ none ↦ perform base (lending (length staging)) (actOf c) u | some n ↦ unmade n u ])
       by-number zero = performed (perform base (lending (length staging)) (actOf c) u) refl
       by-number (suc n) = refl
 
@@ -134,12 +132,10 @@ module _ (base : ℕ) where
   -- a take-back whose arguments are right
   pub back-through : (u : World) → wrongBack base (length (u .now .mem)) (total u) (length (u .used)) ≡ 0
       → backHeld base (heldOf u) ≡ carried (λ _. Heard.Nothing) heldOf (takeBack base u)
-  unfolding backHeld afterBack
+  unfolding backHeld afterBack unlessStopped
   back-through u right =
-      subst₂ (λ n v. ended (elim (wrongBack base (length (u .now .mem)) n (length (u .used))) [
-        | zero ↦ toldAfter [] (length (u .used)) (heardNothing (takeBack base v))
-        | suc n ↦ told (suc n) Heard.Nothing (u .now .dev) (u .now .mem) [] (u .used ++ u .free) (length (u .used))
-      ]) ≡ carried (λ _. Heard.Nothing) heldOf (takeBack base u))
+      subst₂ (λ n v. ended (unlessStopped (u .now .dev) (u .now .mem) [] (u .used ++ u .free) (length (u .used)) (wrongBack base (length (u .now .mem)) n (length (u .used)))
+      (toldAfter [] (length (u .used)) (heardNothing (takeBack base v)))) ≡ carried (λ _. Heard.Nothing) heldOf (takeBack base u))
       (sym (length-append (u .used) (u .free))) (sym (world-held u)) (rw right (taken-back (takeBack base u) refl))
     where
       taken-back : (o : After (Unit {0}) World) → takeBack base u ≡ o

@@ -13,7 +13,7 @@ use Rattle.rules.specs.Act.{Act, Endless, _>>=_}
 use Rattle.rules.specs.With.{withTable}
 use Rattle.rules.specs.Carry.{Machine, World, ok, no, linesOf, go, After, made, unmade, lastLines, cleared, leave, perform, undo, lending}
 use Rattle.rules.specs.TakeBack.{decodeAll, takeBack}
-use Rattle.rules.specs.Calls.{Asked, write, inputs, pending, run, service, ack, actOf, badWindow, badJournal, check, wrong, first, barred, stops, wrongBack, Told, told, stagingAfter, worldOf, toldAfter, after, heardNothing, afterBack, ToldRead, toldRead, afterRead}
+use Rattle.rules.specs.Calls.{Asked, write, inputs, pending, run, service, ack, actOf, badWindow, badJournal, check, wrong, first, barred, stops, wrongBack, Told, told, stagingAfter, worldOf, toldAfter, unlessStopped, after, heardNothing, afterBack, ToldRead, toldRead, afterRead}
 use Rattle.rules.specs.State.{Device}
 use Rattle.rules.specs.declared.Heard.{Heard}
 use Rattle.rules.specs.declared.Heard.the-variants as Heard
@@ -65,13 +65,21 @@ pub not-stopped : (base window journal used : ℕ) (c : Asked) (d : Device) → 
 unfolding stops
 not-stopped base window journal used c d = first-none (wrong base window journal used c) (barred c d)
 
+-- a fact of what a call tells: it holds of what is there if nothing is done, and of what the act left if nothing stops it
+module _ (P : Told → Type 0) (d : Device) (window staging journal : List ℕ) (used : ℕ) where
+  pub either-way : (n : ℕ) {acted : Told} → ((k : ℕ) → n ≡ suc k → P (told (suc k) Heard.Nothing d window staging journal used)) → (n ≡ 0 → P acted)
+      → P (unlessStopped d window staging journal used n acted)
+  unfolding unlessStopped
+  either-way zero f g = g refl
+  either-way (suc k) f g = f k refl
+
 -- ---- a call that is stopped: nothing is done
 
 module _ (base : ℕ) (d : Device) (window journal : List ℕ) (used n : ℕ) where
   pub act-stopped : (c : Asked) (staging : List ℕ) → stops base (length window) (length journal) used c d ≡ suc n
       → after c base d window staging journal used ≡ told (suc n) Heard.Nothing d window staging journal used
-  unfolding after
-  act-stopped c staging e = rw (e, after)
+  unfolding after unlessStopped
+  act-stopped c staging e = rw e
 
   pub act-wrong : (c : Asked) (staging : List ℕ) → wrong base (length window) (length journal) used c ≡ suc n
       → after c base d window staging journal used ≡ told (suc n) Heard.Nothing d window staging journal used
@@ -79,8 +87,8 @@ module _ (base : ℕ) (d : Device) (window journal : List ℕ) (used n : ℕ) wh
 
   pub back-wrong : wrongBack base (length window) (length journal) used ≡ suc n
       → afterBack base d window journal used ≡ told (suc n) Heard.Nothing d window [] journal used
-  unfolding afterBack
-  back-wrong e = rw (e, afterBack)
+  unfolding afterBack unlessStopped
+  back-wrong e = rw e
 
 -- ---- every refusal
 
@@ -104,7 +112,9 @@ length-cleared used journal =
 module _ (base : ℕ) (d : Device) (window journal : List ℕ) (used : ℕ) where
   pub act-as-given : (c : Asked) (staging : List ℕ) → AsGiven d window journal used (after c base d window staging journal used)
   unfolding after
-  act-as-given c staging = by-number (stops base (length window) (length journal) used c d)
+  act-as-given c staging =
+      either-way (AsGiven d window journal used) d window staging journal used (stops base (length window) (length journal) used c d) (λ k _. (refl, refl, refl, refl, refl))
+      (λ _. by-end (perform base (lending (length staging)) (actOf c) u) refl)
     where
       u : World
       u = worldOf d window journal used
@@ -117,16 +127,11 @@ module _ (base : ℕ) (d : Device) (window journal : List ℕ) (used : ℕ) wher
           subst (λ w. AsGiven d window journal used (toldAfter (stagingAfter c staging) used (unmade (suc n) w))) (sym (refused base (lending (length staging)) (actOf c) u (suc n) v e))
           (refl, refl, refl, take-cleared used journal, length-cleared used journal)
 
-      by-number : (n : ℕ) → AsGiven d window journal used (elim n [
-        | zero ↦ toldAfter (stagingAfter c staging) used (perform base (lending (length staging)) (actOf c) u)
-        | suc n ↦ told (suc n) Heard.Nothing d window staging journal used
-      ])
-      by-number zero = by-end (perform base (lending (length staging)) (actOf c) u) refl
-      by-number (suc n) = (refl, refl, refl, refl, refl)
-
   pub back-as-given : AsGiven d window journal used (afterBack base d window journal used)
   unfolding afterBack
-  back-as-given = by-number (wrongBack base (length window) (length journal) used)
+  back-as-given =
+      either-way (AsGiven d window journal used) d window [] journal used (wrongBack base (length window) (length journal) used) (λ k _. (refl, refl, refl, refl, refl))
+      (λ _. by-end (takeBack base u) refl)
     where
       u : World
       u = worldOf d window journal used
@@ -138,13 +143,6 @@ module _ (base : ℕ) (d : Device) (window journal : List ℕ) (used : ℕ) wher
           unfold toldAfter heardNothing in
           subst (λ w. AsGiven d window journal used (toldAfter [] used (heardNothing {A = Unit {0}} (unmade (suc n) w)))) (sym (back-refused base u (suc n) v e .0))
           (refl, refl, refl, ap (take used) (take-append-drop used journal), ap length (take-append-drop used journal))
-
-      by-number : (n : ℕ) → AsGiven d window journal used (elim n [
-        | zero ↦ toldAfter [] used (heardNothing (takeBack base u))
-        | suc n ↦ told (suc n) Heard.Nothing d window [] journal used
-      ])
-      by-number zero = by-end (takeBack base u) refl
-      by-number (suc n) = (refl, refl, refl, refl, refl)
 
 -- ---- the tests, passed and not
 
@@ -210,8 +208,8 @@ module _ (c : Asked) (base : ℕ) (d : Device) (window staging journal : List �
 
     told-refused : (n : ℕ) → perform base (lending (length staging)) (actOf c) (worldOf d window journal used) ≡ unmade n (cleared (worldOf d window journal used))
         → after c base d window staging journal used ≡ told n Heard.Nothing d window (stagingAfter c staging) (take used journal ++ replicate (length journal - used) 0) used
-    unfolding after cleared toldAfter
-    told-refused n e = rw (right, after, e, toldAfter, length-drop used journal)
+    unfolding after unlessStopped cleared toldAfter
+    told-refused n e = rw (right, e, length-drop used journal)
 
     -- an act refused at a step: undoing its records gives back window and device
     pub rolls-back : (n : ℕ) (v : World) → go base (lending (length staging)) (actOf c) (worldOf d window journal used) ≡ no n v

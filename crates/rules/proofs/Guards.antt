@@ -1,33 +1,31 @@
 -- The guards that `go` tests on stores, and on fetches from the table, never decide: a call that refusals 1 to 8 let pass stores in legal
 -- widths only, and reaches into the table's 2048 bytes only; so without these tests its act goes the same. Assumes nothing.
-use mathlib.Core.Bool.{Bool, true, false, cond, _&&_, _||_, not, false≢true}
-use mathlib.Core.List.{List, [], _∷_}
-use mathlib.Core.Option.{Option}
+use mathlib.Core.Bool.{Bool, true, false, _&&_, _||_, not, false≢true}
 use mathlib.Core.Path.{_≡_, refl, ap, _∙_}
-use Prim.Native.Nat.{ℕ, zero, suc, _+_, _-_, _/_, _%_, _^_, _<_, _≤_, zero-le, suc-le-suc}
+use Prim.Native.Nat.{ℕ, zero, suc, _+_, _-_, _*_, _/_, _%_, _^_, _<_, _≤_, zero-le, suc-le-suc}
 use native.Mathlib.Omega.{arith}
 use lib.Count.{trailingZeros, under}
 use lib.Dec.{eqb, leb, ltb, lit<}
-use lib.ListN.{getD, length}
+use lib.ListN.{length}
 use borrow.Author.Tests.{eqb-false, eqb-true, leb-true, ltb-false, not-false}
-use Rattle.rules.specs.Act.{Act, Done, Endless, Stage, Fetch, Store, Ask, Put, Look, Space, window, table, nothing, MASKS, FORCED, CONFIG, BUSY, MAJORS, PENDING, SOURCE}
-use Rattle.rules.specs.Scalars.{CR, ERQ, EEI, INT, ERR, KICK, DEFERRED, DEADLINE, STANDING}
+use Rattle.rules.specs.Act.{Act, Done, Endless, Stage, Fetch, Store, Ask, Put, Look, Space, window, table, BUSY, MAJORS, PENDING}
+use Rattle.rules.specs.Scalars.{ERQ, KICK, DEFERRED, DEADLINE, STANDING}
 use Rattle.rules.specs.Fields.{bitsOf, holds, settingOf}
 use Rattle.rules.specs.Carry.{World, Out, ok, no, there, legal, fetched, recorded, go, Lent}
 use Rattle.rules.specs.Words.{has, lowest}
 use Rattle.rules.specs.Minor.{START, DONE, descriptor, pass}
 use Rattle.rules.specs.Run.{requests, offered, startLoop, lineLoop, serveLine, requestLoop, startPasses, linePasses, requestPasses, serve, turn, turns, runTurns, runAll, release, serviceAll}
-use Rattle.rules.specs.Registers.{within, inTable, blockOf, offsetOf, flagOne, flagEach, setRequests, setStarts, clearDones, command, commands, tableWrite, Arm, pick, dmaArms, dmaWrite, levelsWrite, controllerArms, controllerWrite, writeIn, writeAt, pastTable, pastWord, inBlocks}
-use Rattle.rules.specs.Calls.{addPending, orNothing, Asked, write, inputs, pending, run, service, ack, actOf, badSize, isNone, wrong}
-use Rattle.rules.proofs.BoolLaws.{and-left, and-right, or-either, neither}
+use Rattle.rules.specs.Registers.{within, inTable, blockOf, offsetOf, writeAt, pastTable, pastWord, inBlocks}
+use Rattle.rules.specs.Calls.{addPending, Asked, write, inputs, pending, run, service, ack, actOf, badSize, isNone, wrong}
+use Rattle.rules.proofs.BoolLaws.{and-left, or-either, neither}
 use Rattle.rules.proofs.CallLaws.{passed}
 use Rattle.rules.proofs.FieldLaws.{holds-fits}
 use Rattle.rules.proofs.Steps.{putting, in-table, fetch-inside}
-use Rattle.rules.proofs.Each.{Rights, Each, at-done, at-endless, at-stage, at-fetch, at-store, at-ask, at-put, at-look, _>>=_, _>>_, each-fetch, each-store, each-ask, each-asked, each-put, each-change, each-when, each-cond, Proper, proper-store, proper-put, fetched-length}
+use Rattle.rules.proofs.Each.{Rights, Each, at-done, at-endless, at-stage, at-fetch, at-store, at-ask, at-put, at-look, _>>=_, _>>_, each-ask, each-asked, each-put, each-change, each-when, each-cond, Proper, proper-store, proper-put, fetched-length}
 use Rattle.rules.proofs.PassLaws.{descriptor-each, pass-each}
+use Rattle.rules.proofs.Arms.{write-each}
 use Rattle.rules.proofs.Pieces.{requesting-each, levelled-each, acknowledge-each, inputs-each}
 
-infixr 20 _also_
 -- ---- the guards
 
 abbrev pub Inside : Space → ℕ → ℕ → Type 0
@@ -178,145 +176,6 @@ service-guarded now pace = do
   each-change KICK _ tt
   run-guarded now pace
 
--- ---- registers
-
-module _ (g : ℕ → ℕ) (m : ℕ) where
-  flag-guarded : (ch : ℕ) → ch < 64 → Each guarded (flagOne g ch)
-  unfolding flagOne guarded legal
-  flag-guarded ch h = do
-    b ← each-fetch _ _ _ (omega arith)
-    each-store _ _ _ _ (refl, omega arith)
-
-  flags-guarded : (left ch : ℕ) → ch + left ≤ 64 → Each guarded (flagEach g m left ch)
-  unfolding flagEach
-  flags-guarded zero ch h = at-done
-  flags-guarded (suc left) ch h = do
-    _ ← each-when (has m ch) (λ _. flag-guarded ch (omega arith))
-    flags-guarded left (suc ch) (omega arith)
-
-set-requests-guarded : (v : ℕ) → Each guarded (setRequests v)
-unfolding setRequests guarded
-set-requests-guarded v = do
-  each-change ERQ _ tt
-  asking ← requesting-each
-  each-change KICK _ tt
-
-set-starts-guarded : (v : ℕ) → Each guarded (setStarts v)
-unfolding setStarts guarded
-set-starts-guarded v = do
-  flags-guarded _ _ 64 0 (omega arith)
-  each-change KICK _ tt
-
--- every act of a row
-data AllGuarded : List (Act (Unit {0})) → Type 0 where
-  no-more : AllGuarded []
-  _also_ : {a : Act (Unit {0})} {row : List (Act (Unit {0}))} → Each guarded a → AllGuarded row → AllGuarded (a ∷ row)
-
-of-row : {row : List (Act (Unit {0}))} (k : ℕ) → AllGuarded row → Each guarded (getD row k nothing)
-of-row zero no-more = at-done
-of-row (suc k) no-more = at-done
-of-row zero (p also q) = p
-of-row (suc k) (p also q) = of-row k q
-
-command-guarded : (k v : ℕ) → Each guarded (command k v)
-unfolding command clearDones guarded
-command-guarded k v =
-    of-row k
-    (set-requests-guarded v
-    also each-change ERQ _ tt
-    also each-change EEI _ tt
-    also each-change EEI _ tt
-    also each-change INT _ tt
-    also each-change ERR _ tt
-    also set-starts-guarded v
-    also flags-guarded _ _ 64 0 (omega arith)
-    also no-more)
-
-commands-guarded : (k v : ℕ) → Each guarded (commands k v)
-unfolding commands
-commands-guarded k v = do
-  command-guarded _ _
-  command-guarded _ _
-  command-guarded _ _
-  command-guarded _ _
-
--- what the arms of a row do
-abbrev acts : List Arm → List (Act (Unit {0}))
-acts [] = []
-acts (a ∷ row) = a .does ∷ acts row
-
--- one way or the other, where there is such a register
-either-guarded : (b : Bool) (x y : Option (Act (Unit {0}))) → (b ≡ true → Each guarded (orNothing x)) → (b ≡ false → Each guarded (orNothing y))
-    → Each guarded (orNothing (cond b x y))
-either-guarded true x y p q = p refl
-either-guarded false x y p q = q refl
-
-pick-guarded : (off size : ℕ) (row : List Arm) → AllGuarded (acts row) → Each guarded (orNothing (pick off size row))
-unfolding pick orNothing
-pick-guarded off size [] no-more = at-done
-pick-guarded off size (a ∷ row) (p also q) = either-guarded (eqb off (a .off) && eqb size (a .size)) _ _ (λ _. p) (λ _. pick-guarded off size row q)
-
--- a descriptor write inside the table
-table-write-guarded : (off size v : ℕ) → legal table size ≡ true → off < 2048 → off + size ≤ 2048 → Each guarded (tableWrite off size v)
-unfolding tableWrite guarded
-table-write-guarded off size v l h s = do
-  each-store _ _ _ _ (l, s)
-  b ← each-fetch _ _ _ (omega arith)
-  each-when _ (λ _. each-change KICK _ tt)
-
-dma-guarded : (off size v : ℕ) → legal table size ≡ true → (inTable off ≡ true → off + size ≤ 0x1800) → Each guarded (orNothing (dmaWrite off size v))
-unfolding dmaWrite orNothing dmaArms inTable within guarded
-dma-guarded off size v l h =
-    either-guarded (inTable off) _ _
-    (λ e.
-    let low : 0x1000 ≤ off = leb-true _ _ (and-left _ _ e) in
-    let high : off ≤ 0x17FF = leb-true _ _ (and-right (leb 0x1000 off) _ e) in
-    let past : off + size ≤ 0x1800 = h e in
-    table-write-guarded (off - 0x1000) size v l (omega arith) (omega arith))
-    (λ _. either-guarded (eqb size 1 && within 0x18 0x1F off) _ _ (λ _. command-guarded (off - 0x18) v)
-    (λ _. either-guarded (eqb size 1 && within 0x100 0x13F off) _ _ (λ _. at-done)
-    (λ _. pick-guarded off size (dmaArms v)
-    (each-put CR v tt
-    also each-change ERQ _ tt
-    also each-change ERQ _ tt
-    also each-change EEI _ tt
-    also each-change EEI _ tt
-    also commands-guarded 0 v
-    also commands-guarded 4 v
-    also each-change INT _ tt
-    also each-change INT _ tt
-    also each-change ERR _ tt
-    also each-change ERR _ tt
-    also no-more))))
-
-levels-write-guarded : (c s : ℕ) (bs : List ℕ) → Each guarded (levelsWrite c s bs)
-unfolding levelsWrite guarded
-levels-write-guarded c s [] = at-done
-levels-write-guarded c s (b ∷ bs) = do
-  _ ← each-when (ltb s 64) (λ _. each-put (SOURCE c s) b tt)
-  levels-write-guarded c (suc s) bs
-
-controller-guarded : (c off size v : ℕ) → Each guarded (orNothing (controllerWrite c off size v))
-unfolding controllerWrite orNothing controllerArms guarded
-controller-guarded c off size v =
-    either-guarded (within 0x00 0x07 off) _ _ (λ _. at-done)
-    (λ _. either-guarded (within 0x08 0x0F off) _ _ (λ _. each-change (MASKS c) _ tt)
-    (λ _. either-guarded (within 0x10 0x17 off) _ _ (λ _. each-change (FORCED c) _ tt)
-    (λ _. either-guarded (within 0x40 0x7F off) _ _ (λ _. levels-write-guarded c (off - 0x40) _)
-    (λ _. pick-guarded off size (controllerArms c v)
-    (each-put (CONFIG c) v tt
-    also each-change (MASKS c) _ tt
-    also each-change (MASKS c) _ tt
-    also at-done
-    also at-done
-    also no-more)))))
-
-write-guarded : (block off size v : ℕ) → legal table size ≡ true → (block ≡ 0 → inTable off ≡ true → off + size ≤ 0x1800)
-    → Each guarded (orNothing (writeIn block off size v))
-unfolding writeIn
-write-guarded zero off size v l h = dma-guarded off size v l (h refl)
-write-guarded (suc c) off size v l h = controller-guarded c off size v
-
 -- ---- the calls
 
 size-legal : (size : ℕ) → badSize size ≡ false → legal table size ≡ true
@@ -331,6 +190,16 @@ not-past : (address size : ℕ) → pastTable address size ≡ false → blockOf
 unfolding pastTable
 not-past address size e b t = ltb-false 0x1800 (offsetOf address + size) (rw (b, t) at e)
 
+-- a channel's last byte is inside the table
+flag-guarded : (ch : ℕ) → ch < 64 → guarded .may-fetch table (32 * ch + 0x1F) 1 × guarded .may-store table (32 * ch + 0x1F) 1
+unfolding guarded legal
+flag-guarded ch h = (omega arith, (refl, omega arith))
+
+-- and so is a write that begins there and does not run past its end
+stored-inside : (off size : ℕ) → inTable off ≡ true → off + size ≤ 0x1800 → off - 0x1000 + size ≤ 2048
+unfolding inTable within
+stored-inside off size e h = let low : 0x1000 ≤ off = leb-true _ _ (and-left _ _ e) in omega arith
+
 -- of every call that refusals 1 to 8 do not refuse
 pub call-guarded : (base mem journal used : ℕ) (c : Asked) → wrong base mem journal used c ≡ 0 → Each guarded (actOf c)
 unfolding actOf wrong writeAt addPending guarded
@@ -340,7 +209,8 @@ call-guarded base mem journal used (write address size v) e =
     let three = passed (isNone (writeAt address size v)) 2 _ (two .1) in
     let four = passed (pastTable address size || pastWord address size) 3 _ (three .1) in
     levelled-each (λ c. tt) tt _
-    (write-guarded (blockOf address) (offsetOf address) size v (size-legal size (one .0)) (not-past address size (neither _ _ (four .0) .0)))
+    (write-each (λ f. tt) flag-guarded (blockOf address) (offsetOf address) size v
+    (λ b t. (size-legal size (one .0), stored-inside (offsetOf address) size t (not-past address size (neither _ _ (four .0) .0) b t))))
 call-guarded base mem journal used (inputs standing l0 l1 l2) e = levelled-each (λ c. tt) tt _ (inputs-each (λ f. tt) standing l0 l1 l2)
 call-guarded base mem journal used (pending ch count) e = levelled-each (λ c. tt) tt _ (each-change (PENDING ch) _ tt)
 call-guarded base mem journal used (run now pace) e = levelled-each (λ c. tt) tt _ (run-guarded now pace)

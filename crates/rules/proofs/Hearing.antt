@@ -9,7 +9,7 @@ use borrow.Author.Tests.{eqb-false}
 use lib.Dec.{eqb, leb, lit<}
 use lib.ListN.{length, getD}
 use Rattle.rules.specs.Act.{Act, change, TAKEN}
-use Rattle.rules.specs.Calls.{Asked, write, inputs, pending, run, service, ack, levelled, actOf, stops, wrongBack, told, heardTold, stagingAfter, worldOf, toldAfter, after, heardNothing, afterBack}
+use Rattle.rules.specs.Calls.{Asked, write, inputs, pending, run, service, ack, levelled, actOf, stops, wrongBack, heardTold, stagingAfter, worldOf, toldAfter, after, heardNothing, afterBack}
 use Rattle.rules.specs.Carry.{World, Out, ok, no, go, After, made, unmade, lastLines, written, cleared, leave, perform, Lent, lending}
 use Rattle.rules.specs.Lines.{sources, levelBytes, relevel, answers, Found, loudestAbove, above, heardFrom, hear, acknowledge}
 use Rattle.rules.specs.TakeBack.{takeBack}
@@ -17,6 +17,7 @@ use Rattle.rules.specs.Words.{has}
 use Rattle.rules.specs.State.{Device}
 use Rattle.rules.specs.declared.Heard.{Heard}
 use Rattle.rules.specs.declared.Heard.the-variants as Heard
+use Rattle.rules.proofs.CallLaws.{either-way}
 use Rattle.rules.proofs.Leads.{IfAnswered, Leads, leads-bind, leads-then, leads-done, leads-cond, shrinks}
 
 abbrev pub Audible : Heard → Type 0
@@ -87,7 +88,9 @@ module _ {base : ℕ} {lent : Lent} where
 
 pub act-hears : (c : Asked) (base : ℕ) (d : Device) (window staging journal : List ℕ) (used : ℕ) → Audible (heardTold (after c base d window staging journal used))
 unfolding after perform leave toldAfter
-act-hears c base d window staging journal used = by-number (stops base (length window) (length journal) used c d)
+act-hears c base d window staging journal used =
+    either-way (λ t. Audible (heardTold t)) d window staging journal used (stops base (length window) (length journal) used c d) (λ k _. tt)
+    (λ _. left (go base (lending (length staging)) (actOf c) u) (call-audible c u .answered))
   where
     u : World
     u = worldOf d window journal used
@@ -101,25 +104,13 @@ act-hears c base d window staging journal used = by-number (stops base (length w
           | false ↦ tt
         ]
 
-    by-number : (n : ℕ) → Audible (heardTold (elim n [
-      | zero ↦ toldAfter (stagingAfter c staging) used (perform base (lending (length staging)) (actOf c) u)
-      | suc n ↦ told (suc n) Heard.Nothing d window staging journal used
-    ]))
-    by-number zero = left (go base (lending (length staging)) (actOf c) u) (call-audible c u .answered)
-    by-number (suc n) = tt
-
 -- a take-back hears nothing
 pub back-hears : (base : ℕ) (d : Device) (window journal : List ℕ) (used : ℕ) → heardTold (afterBack base d window journal used) ≡ Heard.Nothing
 unfolding afterBack
-back-hears base d window journal used = by-number (wrongBack base (length window) (length journal) used)
+back-hears base d window journal used =
+    either-way (λ t. heardTold t ≡ Heard.Nothing) d window [] journal used (wrongBack base (length window) (length journal) used) (λ k _. refl)
+    (λ _. by-end (takeBack base (worldOf d window journal used)))
   where
     by-end : (o : After (Unit {0}) World) → heardTold (toldAfter [] used (heardNothing o)) ≡ Heard.Nothing
     by-end (made a v) = unfold toldAfter heardNothing in refl
     by-end (unmade n v) = unfold toldAfter heardNothing in refl
-
-    by-number : (n : ℕ) → heardTold (elim n [
-      | zero ↦ toldAfter [] used (heardNothing (takeBack base (worldOf d window journal used)))
-      | suc n ↦ told (suc n) Heard.Nothing d window [] journal used
-    ]) ≡ Heard.Nothing
-    by-number zero = by-end (takeBack base (worldOf d window journal used))
-    by-number (suc n) = refl

@@ -14,11 +14,12 @@ pub mod Same
 pub mod Numbers
 pub mod Typed
 pub mod ViewLaws
--- an act's steps: one by one, what every act keeps, what each may do (and pieces that calls share), where it leads
+-- an act's steps: one by one, what every act keeps, what each may do (and the pieces and register arms that calls share), where it leads
 pub mod Steps
 pub mod Keeps
 pub mod Each
 pub mod Pieces
+pub mod Arms
 pub mod Leads
 pub mod Grown
 -- undoing: one record, a group, an act that is refused, an act that is taken back
@@ -38,7 +39,6 @@ pub mod Along
 -- the calls: by cases, what they answer, what refuses them, what they leave alone
 pub mod CallLaws
 pub mod Told
-pub mod Aside
 pub mod Refusals
 pub mod Added
 pub mod Stays

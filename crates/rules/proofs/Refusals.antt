@@ -3,27 +3,27 @@
 use mathlib.Core.Bool.{Bool, true, false, not, _||_}
 use mathlib.Core.List.{List, [], _∷_}
 use mathlib.Core.Path.{_≡_, refl, sym, ap, _∙_, subst}
-use Prim.Native.Nat.{ℕ, zero, suc, _+_, _-_, _%_, _^_, _≤_}
+use Prim.Native.Nat.{ℕ, zero, suc, _-_, _%_, _^_, _≤_}
 use native.Mathlib.Omega.{arith}
 use borrow.Author.Tests.{eqb-true, eqb-false}
 use lib.Dec.{eqb, leb, ltb}
 use lib.ListN.{length}
-use Rattle.rules.specs.Act.{Act, table, PENDING}
-use Rattle.rules.specs.Calls.{Asked, write, inputs, pending, run, service, ack, addPending, orNothing, actOf, badSize, isNone, badWindow, badJournal, badTime, badSum, check, wrong, first, barred, stops, wrongBack, wrongRead, told, numberTold, stagingAfter, worldOf, toldAfter, after, heardNothing, afterBack, toldRead, orZero, afterRead}
+use Rattle.rules.specs.Act.{Act, Space, window, table, PENDING}
+use Rattle.rules.specs.Calls.{Asked, write, inputs, pending, run, service, ack, addPending, actOf, badSize, isNone, badWindow, badJournal, badTime, badSum, check, wrong, first, barred, stops, wrongBack, wrongRead, numberTold, stagingAfter, worldOf, toldAfter, after, heardNothing, afterBack, readUnless, afterRead}
 use Rattle.rules.specs.Carry.{World, Out, ok, no, recorded, After, made, unmade, lastLines, written, cleared, leave, perform, go, Lent, lending}
 use Rattle.rules.specs.Fields.{bitsOf, holds, settingOf}
-use Rattle.rules.specs.Registers.{inBlocks, blockOf, offsetOf, writeIn, writeAt, readAt, pastTable, pastWord}
+use Rattle.rules.specs.Registers.{inBlocks, blockOf, offsetOf, writeAt, readAt, pastTable, pastWord}
 use Rattle.rules.specs.TakeBack.{takeBack}
 use Rattle.rules.specs.State.{Device}
 use Rattle.rules.specs.declared.Heard.{Heard}
 use Rattle.rules.specs.declared.Heard.the-variants as Heard
 use Rattle.rules.proofs.Bench.{readNumber}
-use Rattle.rules.proofs.CallLaws.{not-stopped}
-use Rattle.rules.proofs.Each.{Each, at-done, at-endless, at-stage, at-fetch, at-store, at-ask, at-put, at-look, each-change, Proper, proper-store, proper-put, fetched-length}
+use Rattle.rules.proofs.CallLaws.{not-stopped, either-way}
+use Rattle.rules.proofs.Each.{Rights, Each, at-done, at-endless, at-stage, at-fetch, at-store, at-ask, at-put, at-look, each-change, Proper, proper-store, proper-put, fetched-length}
 use Rattle.rules.proofs.FieldLaws.{holds-fits}
 use Rattle.rules.proofs.Guards.{goBare, call-bare}
 use Rattle.rules.proofs.Lasts.{act-number, back-refused}
-use Rattle.rules.proofs.Aside.{aside, dma-aside, controller-aside}
+use Rattle.rules.proofs.Arms.{write-each}
 use Rattle.rules.proofs.Pieces.{levelled-each, acknowledge-each, inputs-each}
 use Rattle.rules.proofs.Steps.{putting}
 
@@ -54,10 +54,14 @@ check-among false n next l p q = q
 
 -- ---- a call without a window
 
-write-aside : (block off size v : ℕ) → Each aside (orNothing (writeIn block off size v))
-unfolding writeIn
-write-aside zero off size v = dma-aside off size v
-write-aside (suc c) off size v = controller-aside c off size v
+-- not in the window
+abbrev OffWindow : Space → Type 0
+OffWindow window = ⊥
+OffWindow table = Unit {0}
+
+-- no staging, and no window
+abbrev aside : Rights
+aside = record { may-stage = λ n. ⊥; may-fetch = λ sp a n. OffWindow sp; may-store = λ sp a n. OffWindow sp; may-put = λ f. Unit {0} }
 
 -- steps that need no staging and keep off the window are refused with 11 only
 Full : {A : Type 0} → Out A → Type 0
@@ -113,15 +117,10 @@ module _ (base : ℕ) (d : Device) (window journal : List ℕ) (used : ℕ) wher
       → (stops base (length window) (length journal) used c d ≡ 0 → among (numberOfEnd (perform base (lending (length staging)) (actOf c) u)) l ≡ true)
       → among (numberTold (after c base d window staging journal used)) l ≡ true
   unfolding after u
-  by-stops c staging l p q = by-number (stops base (length window) (length journal) used c d) p q
-    where
-      by-number : (n : ℕ) → among n l ≡ true → (n ≡ 0 → among (numberOfEnd (perform base (lending (length staging)) (actOf c) u)) l ≡ true)
-          → among (numberTold (elim n [
-            | zero ↦ toldAfter (stagingAfter c staging) used (perform base (lending (length staging)) (actOf c) u)
-            | suc n ↦ told (suc n) Heard.Nothing d window staging journal used
-          ])) l ≡ true
-      by-number zero p q = ap (λ n. among n l) (number-told (stagingAfter c staging) used (perform base (lending (length staging)) (actOf c) u)) ∙ q refl
-      by-number (suc n) p q = p
+  by-stops c staging l p q =
+      either-way (λ t. among (numberTold t) l ≡ true) d window staging journal used (stops base (length window) (length journal) used c d)
+      (λ k e. ap (λ n. among n l) (sym e) ∙ p)
+      (λ e. ap (λ n. among n l) (number-told (stagingAfter c staging) used (perform base (lending (length staging)) (actOf c) u)) ∙ q e)
 
   module _ (c : Asked) (staging l : List ℕ) (accepted : among 0 l ≡ true) (full : among 11 l ≡ true) where
     -- without a window
@@ -195,7 +194,7 @@ module _ (base : ℕ) (d : Device) (window journal : List ℕ) (used : ℕ) wher
     where
       performed : (c : Asked) → wrong base (length window) (length journal) used c ≡ 0 → among (numberOfEnd (perform base (lending (length staging)) (actOf c) u)) (numbersOf c) ≡ true
       performed (write address size v) e =
-          aside-among (write address size v) staging (numbersOf (write address size v)) refl refl (levelled-each (λ c. tt) tt _ (write-aside (blockOf address) (offsetOf address) size v)) p e
+          aside-among (write address size v) staging (numbersOf (write address size v)) refl refl (levelled-each (λ c. tt) tt _ (write-each (λ f. tt) (λ ch h. (tt, tt)) (blockOf address) (offsetOf address) size v (λ b t. tt))) p e
       performed (inputs standing l0 l1 l2) e =
           aside-among (inputs standing l0 l1 l2) staging (numbersOf (inputs standing l0 l1 l2)) refl refl (levelled-each (λ c. tt) tt _ (inputs-each (λ f. tt) standing l0 l1 l2)) p e
       performed (pending ch count) e =
@@ -216,18 +215,13 @@ module _ (base : ℕ) (d : Device) (window journal : List ℕ) (used : ℕ) wher
   -- so is a take-back's
   pub back-numbers : among (numberTold (afterBack base d window journal used)) numbersOfBack ≡ true
   unfolding afterBack u toldAfter heardNothing among numbersOfBack
-  back-numbers = by-number (wrongBack base (length window) (length journal) used) args-among
+  back-numbers =
+      either-way (λ t. among (numberTold t) numbersOfBack ≡ true) d window [] journal used (wrongBack base (length window) (length journal) used)
+      (λ k e. ap (λ n. among n numbersOfBack) (sym e) ∙ args-among) (λ _. by-end (takeBack base u) refl)
     where
       by-end : (o : After (Unit {0}) World) → takeBack base u ≡ o → among (numberTold (toldAfter [] used (heardNothing o))) numbersOfBack ≡ true
       by-end (made a v) e = refl
       by-end (unmade n v) e = let r = back-refused base u n v e in twelve-or n (r .1) (r .2) (eqb n 12) refl
-
-      by-number : (n : ℕ) → among n numbersOfBack ≡ true → among (numberTold (elim n [
-        | zero ↦ toldAfter [] used (heardNothing (takeBack base u))
-        | suc n ↦ told (suc n) Heard.Nothing d window [] journal used
-      ])) numbersOfBack ≡ true
-      by-number zero p = by-end (takeBack base u) refl
-      by-number (suc n) p = p
 
 module _ (d : Device) (address size : ℕ) where
   read-among : among (wrongRead d address size) numbersOfRead ≡ true
@@ -240,10 +234,10 @@ module _ (d : Device) (address size : ℕ) where
 
   -- and a read's
   pub read-numbers : among (readNumber (afterRead d address size)) numbersOfRead ≡ true
-  unfolding afterRead
+  unfolding afterRead readUnless
   read-numbers = by-number (wrongRead d address size) read-among
     where
       by-number : (n : ℕ) → among n numbersOfRead ≡ true
-          → among (readNumber (elim n [ zero ↦ toldRead 0 (orZero (readAt d address size)) | suc n ↦ toldRead (suc n) 0 ])) numbersOfRead ≡ true
+          → among (readNumber (readUnless n (readAt d address size))) numbersOfRead ≡ true
       by-number zero p = p
       by-number (suc n) p = p

@@ -11,7 +11,7 @@ use lib.ListN.{length, take, drop}
 use lib.Pow.{pow-pos}
 use Rattle.rules.specs.Act.{Act, Space, window, table, Field, SCALAR, MASKS, FORCED, LINES, CONFIG, BUSY, MAJORS, PENDING, SOURCE, TAKEN}
 use Rattle.rules.specs.Bytes.{bytes, splice}
-use Rattle.rules.specs.Calls.{Asked, actOf, stops, wrongBack, told, deviceTold, stagingAfter, worldOf, toldAfter, after, heardNothing, afterBack}
+use Rattle.rules.specs.Calls.{Asked, actOf, stops, wrongBack, deviceTold, worldOf, toldAfter, after, heardNothing, afterBack}
 use Rattle.rules.specs.Carry.{Machine, World, Out, ok, no, bytesOf, withBytesOf, withDevice, indexOf, stored, recorded, go, After, made, unmade, lastLines, written, cleared, leave, perform, undoRec, undo, Lent, lending}
 use Rattle.rules.specs.Fields.{bitsOf, withField, fieldAt, withSome, fitsSome}
 use Rattle.rules.specs.TakeBack.{marked, kind, width, place, value, soundField, soundKind, sound, allSound, recOf, decode, decodeAll, takeBack}
@@ -20,6 +20,7 @@ use Rattle.rules.specs.State.{Device}
 use Rattle.rules.specs.declared.Heard.{Heard}
 use Rattle.rules.specs.declared.Heard.the-variants as Heard
 use Rattle.rules.proofs.BoolLaws.{and-left, and-right}
+use Rattle.rules.proofs.CallLaws.{either-way}
 use Rattle.rules.proofs.Each.{Proper, proper-table, proper-field}
 use Rattle.rules.proofs.Keeps.{AtEnd, go-keeps}
 use Rattle.rules.proofs.Lasts.{Ending, BackEnds, none, damaged, taken, back-ends}
@@ -90,29 +91,19 @@ module _ (P : Device → Type 0) (onTable : (i n v : ℕ) (d : Device) → P d �
     module _ (base : ℕ) (d : Device) (window journal : List ℕ) (used : ℕ) (p : P d) where
       act-stays : (c : Asked) (staging : List ℕ) → P (deviceTold (after c base d window staging journal used))
       unfolding after
-      act-stays c staging = by-number (stops base (length window) (length journal) used c d)
-        where
-          by-number : (n : ℕ) → P (deviceTold (elim n [
-            | zero ↦ toldAfter (stagingAfter c staging) used (perform base (lending (length staging)) (actOf c) (worldOf d window journal used))
-            | suc n ↦ told (suc n) Heard.Nothing d window staging journal used
-          ]))
-          by-number zero = told-stays _ used _ (perform-stays base (lending (length staging)) (actOf c) (worldOf d window journal used) p)
-          by-number (suc n) = p
+      act-stays c staging =
+          either-way (λ t. P (deviceTold t)) d window staging journal used (stops base (length window) (length journal) used c d) (λ k _. p)
+          (λ _. told-stays _ used _ (perform-stays base (lending (length staging)) (actOf c) (worldOf d window journal used) p))
 
       back-stays : P (deviceTold (afterBack base d window journal used))
       unfolding afterBack
-      back-stays = by-number (wrongBack base (length window) (length journal) used)
+      back-stays =
+          either-way (λ t. P (deviceTold t)) d window [] journal used (wrongBack base (length window) (length journal) used) (λ k _. p)
+          (λ _. told-stays [] used _ (as-told _ (take-back-stays base (worldOf d window journal used) p)))
         where
           as-told : (o : After (Unit {0}) World) → Ending On o → Ending On (heardNothing o)
           as-told (made a v) q = unfold heardNothing in q
           as-told (unmade n v) q = unfold heardNothing in q
-
-          by-number : (n : ℕ) → P (deviceTold (elim n [
-            | zero ↦ toldAfter [] used (heardNothing (takeBack base (worldOf d window journal used)))
-            | suc n ↦ told (suc n) Heard.Nothing d window [] journal used
-          ]))
-          by-number zero = told-stays [] used _ (as-told _ (take-back-stays base (worldOf d window journal used) p))
-          by-number (suc n) = p
 
 -- ---- "Ignoring masks is a setting chosen with the device, which no call changes"
 

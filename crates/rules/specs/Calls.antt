@@ -251,13 +251,18 @@ unfoldable pub toldAfter : List ℕ → ℕ → After Heard World → Told
 toldAfter staging used (made heard u) = told 0 heard (u .now .dev) (u .now .mem) staging (u .used ++ u .free) (length (u .used))
 toldAfter staging used (unmade n u) = told n Heard.Nothing (u .now .dev) (u .now .mem) staging (u .used ++ u .free) used
 
+-- of a call that is given this device, window, staging, journal and used length: stopped with a number, it tells them as they are; else, 0, what
+-- its act left
+module _ (d : Device) (window staging journal : List ℕ) (used : ℕ) where
+  unfoldable pub unlessStopped : ℕ → Told → Told
+  unlessStopped zero acted = acted
+  unlessStopped (suc n) acted = told (suc n) Heard.Nothing d window staging journal used
+
 -- base address; device, window, staging, journal and used length as the call is given them
 unfoldable pub after : Asked → ℕ → Device → List ℕ → List ℕ → List ℕ → ℕ → Told
 after c base d window staging journal used =
-    elim (stops base (length window) (length journal) used c d) [
-      | zero ↦ toldAfter (stagingAfter c staging) used (perform base (lending (length staging)) (actOf c) (worldOf d window journal used))
-      | suc n ↦ told (suc n) Heard.Nothing d window staging journal used
-    ]
+    unlessStopped d window staging journal used (stops base (length window) (length journal) used c d)
+    (toldAfter (stagingAfter c staging) used (perform base (lending (length staging)) (actOf c) (worldOf d window journal used)))
 
 unfoldable pub heardNothing : {A : Type 0} → After A World → After Heard World
 heardNothing (made a u) = made Heard.Nothing u
@@ -266,10 +271,8 @@ heardNothing (unmade n u) = unmade n u
 -- take back: it has no staging
 unfoldable pub afterBack : ℕ → Device → List ℕ → List ℕ → ℕ → Told
 afterBack base d window journal used =
-    elim (wrongBack base (length window) (length journal) used) [
-      | zero ↦ toldAfter [] used (heardNothing (takeBack base (worldOf d window journal used)))
-      | suc n ↦ told (suc n) Heard.Nothing d window [] journal used
-    ]
+    unlessStopped d window [] journal used (wrongBack base (length window) (length journal) used)
+    (toldAfter [] used (heardNothing (takeBack base (worldOf d window journal used))))
 
 -- a register read: its number and its value
 pub data ToldRead : Type 0 where
@@ -282,9 +285,13 @@ unfoldable pub orZero : Option ℕ → ℕ
 orZero none = 0
 orZero (some v) = v
 
+-- stopped with a number; or, with 0, what stands there
+unfoldable pub readUnless : ℕ → Option ℕ → ToldRead
+readUnless zero v = toldRead 0 (orZero v)
+readUnless (suc n) v = toldRead (suc n) 0
+
 unfoldable pub afterRead : Device → ℕ → ℕ → ToldRead
-afterRead d address size =
-    elim (wrongRead d address size) [ zero ↦ toldRead 0 (orZero (readAt d address size)) | suc n ↦ toldRead (suc n) 0 ]
+afterRead d address size = readUnless (wrongRead d address size) (readAt d address size)
 
 -- on an `unfolding` line: all the definitions of this file
 unfoldable pub refusals : Unit {0}
@@ -292,5 +299,5 @@ unfolding badSize isNone badWindow badJournal badTime badSum check wrong first b
 refusals = tt
 
 unfoldable pub calls : Unit {0}
-unfolding refusals freshController fresh setInputs addPending orNothing levelled actOf stagingAfter toldAfter after heardNothing afterBack orZero afterRead
+unfolding refusals freshController fresh setInputs addPending orNothing levelled actOf stagingAfter toldAfter unlessStopped after heardNothing afterBack orZero readUnless afterRead
 calls = tt

@@ -3,7 +3,7 @@
 -- Assumes nothing.
 use mathlib.Core.Path.{_≡_, ap, _∙_}
 use lib.ListN.{length}
-use Rattle.rules.specs.Calls.{Asked, Told, actOf, stops, stagingAfter, worldOf, toldAfter, after}
+use Rattle.rules.specs.Calls.{Asked, Told, actOf, stops, stagingAfter, worldOf, toldAfter, unlessStopped, after}
 use Rattle.rules.specs.Carry.{go, leave, perform, lending}
 use Rattle.rules.proofs.CallLaws.{not-stopped}
 use Rattle.rules.proofs.Each.{Proper}
@@ -19,8 +19,8 @@ limited o c g =
 module _ (c : Asked) (g : Given) (right : stops (g .base) (length (g .window)) (length (g .journal)) (g .used) c (g .device) ≡ 0) where
   performed : acts c g
       ≡ toldAfter (stagingAfter c (g .staging)) (g .used) (perform (g .base) (lending (length (g .staging))) (actOf c) (worldOf (g .device) (g .window) (g .journal) (g .used)))
-  unfolding acts after
-  performed = rw (right, after)
+  unfolding acts after unlessStopped
+  performed = rw right
 
   -- the device is of the declared type (`Each.typed-proper`)
   pub no-end-count : (t : Told) → t ≡ acts c g → (o : Limits) → Enough o → Proper (g .device) → t ≡ limited o c g

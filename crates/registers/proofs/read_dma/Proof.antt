@@ -1,8 +1,7 @@
 -- `registers::read_dma` meets its contract. Assumes nothing.
 use Rattle.rules.specs.View.{view}
 use Rattle.registers.proofs.Laws.{fair, end-there}
-use Rattle.registers.specs.Asked.{readSo}
-use Rattle.rules.specs.Calls.{check}
+use Rattle.rules.specs.Calls.{check, readUnless}
 use mathlib.Core.Path.{sym, _∙_}
 use borrow.Author.Needs.{needs}
 use Rattle.registers.proofs.read_dma.Statement.{statement}
@@ -12,7 +11,7 @@ past-end-requires : tie.Need-past-end-requires
 past-end-requires c κs = search needs
 
 returns : tie.Need-returns
-unfolding readSo check
+unfolding readUnless check
 returns c =
     let p = sym (c .before .past-end .ensures) ∙ c .if1 .taken in
     rw (end-there _ _ (view (c .before .before .args .d)) p, p)
