@@ -4,7 +4,7 @@ use mathlib.Core.List.{List}
 use mathlib.Core.Path.{_≡_, refl, sym, ap, _∙_}
 use Prim.Native.Nat.{ℕ, suc}
 use lib.ListN.{length, replicate}
-use Rattle.rules.specs.Calls.{Asked, run, service, Told, told, verdictNumber, levelled, actOf, wrong, first, barred, stops, stagingAfter, worldOf, toldAfter, unlessStopped, after}
+use Rattle.rules.specs.Calls.{Asked, run, service, Told, told, verdictNumber, levelled, actOf, wrong, barred, stagingAfter, worldOf, toldAfter, after}
 use Rattle.rules.specs.Carry.{perform, lending}
 use Rattle.rules.specs.Run.{runAll, serviceAll}
 use Rattle.rules.specs.State.{Device}
@@ -13,7 +13,7 @@ use Rattle.rules.specs.declared.Refusal.{Refusal}
 use Rattle.rules.specs.declared.Refusal.the-variants as Refusal
 use Rattle.rules.specs.declared.Verdict.{Verdict}
 use Rattle.rules.specs.declared.Verdict.the-variants as Verdict
-use Rattle.rules.proofs.CallLaws.{act-wrong}
+use Rattle.rules.proofs.CallLaws.{wrong-alone, act-wrong, act-goes}
 use Rattle.rules.proofs.Told.{refusal-suc}
 use Rattle.engine.specs.Runs.{turnsOf, callOf}
 
@@ -37,14 +37,14 @@ module _ (base : ℕ) (d : Device) (w s j : List ℕ) (used : ℕ) where
     run-told : wrong base (length w) (length j) used (run time pace) ≡ 0
         → x ≡ toldAfter (replicate (length s) 0) used (perform base (lending (length s)) (levelled (runAll time pace)) (worldOf d w j used))
         → x ≡ after (run time pace) base d w s j used
-    unfolding after unlessStopped stops first barred stagingAfter actOf
-    run-told e q = q ∙ sym (rw e)
+    unfolding barred stagingAfter actOf
+    run-told e q = q ∙ sym (act-goes base d w j used (run time pace) s (wrong-alone base (length w) (length j) used (run time pace) d refl ∙ e))
 
     service-told : wrong base (length w) (length j) used (service time pace) ≡ 0
         → x ≡ toldAfter (replicate (length s) 0) used (perform base (lending (length s)) (levelled (serviceAll time pace)) (worldOf d w j used))
         → x ≡ after (service time pace) base d w s j used
-    unfolding after unlessStopped stops first barred stagingAfter actOf
-    service-told e q = q ∙ sym (rw e)
+    unfolding barred stagingAfter actOf
+    service-told e q = q ∙ sym (act-goes base d w j used (service time pace) s (wrong-alone base (length w) (length j) used (service time pace) d refl ∙ e))
 
     pub asked-told : (again : Bool) → wrong base (length w) (length j) used (run time pace) ≡ 0
         → x ≡ toldAfter (replicate (length s) 0) used (perform base (lending (length s)) (levelled (turnsOf again time pace)) (worldOf d w j used))

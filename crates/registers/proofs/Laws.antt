@@ -3,14 +3,14 @@ use mathlib.Core.Bool.{Bool, true, false, not, _||_}
 use mathlib.Core.List.{List, []}
 use mathlib.Core.Option.{Option}
 use mathlib.Core.Path.{_≡_, refl, sym, ap, _∙_}
-use Prim.Native.Nat.{ℕ, zero, suc, _+_, _-_, _%_, _^_, _≤_, _<_}
+use Prim.Native.Nat.{ℕ, suc, _+_, _-_, _%_, _^_, _≤_, _<_}
 use native.Mathlib.Omega.{arith}
 use borrow.Author.Tests.{le-leb, leb-false, ltb-false, ne-eqb, lt-ltb}
 use lib.Dec.{eqb, ltb}
 use lib.ListN.{length, getD, set, take, drop}
 use lib.Seq.{set-getD, set-set}
 use Rattle.rules.specs.Act.{Act, PENDING}
-use Rattle.rules.specs.Calls.{Asked, write, actOf, addPending, badSize, badJournal, badSum, isNone, orNothing, check, wrong, first, barred, stops, wrongRead, levelled, Told, told, toldAfter, stagingAfter, toldReading, refusalNumber, worldOf, unlessStopped, after, readUnless, afterRead}
+use Rattle.rules.specs.Calls.{Asked, write, actOf, addPending, badSize, badJournal, badSum, isNone, orNothing, check, wrong, barred, stops, wrongRead, levelled, Told, told, toldAfter, stagingAfter, toldReading, refusalNumber, worldOf, unlessStopped, after, readUnless, afterRead}
 use Rattle.rules.specs.Carry.{Out, ok, changed, go, leave, perform, Lent, lending}
 use Rattle.rules.specs.Fields.{bitsOf, fieldsOf}
 use Rattle.rules.specs.Registers.{within, inBlocks, inTable, blockOf, offsetOf, dmaRead, dmaWrite, readIn, readAt, writeIn, writeAt, controllerWrite, pastTable, pastWord}
@@ -22,6 +22,7 @@ use Rattle.rules.specs.declared.Refusal.{Refusal}
 use Rattle.rules.specs.declared.Refusal.the-variants as Refusal
 use Rattle.rules.specs.declared.Verdict.the-variants as Verdict
 use Rattle.rules.proofs.BoolLaws.{and-left, and-both}
+use Rattle.rules.proofs.CallLaws.{wrong-alone}
 use Rattle.rules.proofs.Each.{Proper}
 use Rattle.rules.proofs.Told.{refusal-suc}
 use Rattle.act.specs.Does.{Answers, Does}
@@ -164,12 +165,8 @@ stopped-after c base d w staging j used e = rw e refl
 -- and that no device bars
 pub asked-after : (c : Asked) (base : ℕ) (d : Device) (w staging j : List ℕ) (used : ℕ) → stagingAfter c staging ≡ staging → barred c d ≡ 0
     → answered (wrong base (length w) (length j) used c) (actOf c) base d w staging j used ≡ after c base d w staging j used
-unfolding stops first
-asked-after c base d w staging j used e b = ap (λ n. answered n (actOf c) base d w staging j used) (by (wrong base (length w) (length j) used c)) ∙ stopped-after c base d w staging j used e
-  where
-    by : (n : ℕ) → n ≡ first n (barred c d)
-    by zero = sym b
-    by (suc k) = refl
+asked-after c base d w staging j used e b =
+    ap (λ n. answered n (actOf c) base d w staging j used) (sym (wrong-alone base (length w) (length j) used c d b)) ∙ stopped-after c base d w staging j used e
 
 -- ---- write, by the block
 

@@ -55,6 +55,16 @@ pub barred-next : (base window journal used : ℕ) (c : Asked) (d : Device) → 
 unfolding stops first
 barred-next base window journal used c d e = rw e
 
+-- where no device bars the call, its arguments decide
+first-alone : (m n : ℕ) → n ≡ 0 → first m n ≡ m
+unfolding first
+first-alone zero n e = e
+first-alone (suc m) n e = refl
+
+pub wrong-alone : (base window journal used : ℕ) (c : Asked) (d : Device) → barred c d ≡ 0 → stops base window journal used c d ≡ wrong base window journal used c
+unfolding stops
+wrong-alone base window journal used c d = first-alone (wrong base window journal used c) (barred c d)
+
 -- a call that is not stopped has nothing wrong with its arguments, nor does the device bar it
 first-none : (m n : ℕ) → first m n ≡ 0 → (m ≡ 0) × (n ≡ 0)
 unfolding first
@@ -89,6 +99,13 @@ module _ (base : ℕ) (d : Device) (window journal : List ℕ) (used n : ℕ) wh
       → afterBack base d window journal used ≡ told (suc n) Heard.Nothing d window [] journal used
   unfolding afterBack unlessStopped
   back-wrong e = rw e
+
+-- ---- one that is not: its act decides
+
+pub act-goes : (base : ℕ) (d : Device) (window journal : List ℕ) (used : ℕ) (c : Asked) (staging : List ℕ) → stops base (length window) (length journal) used c d ≡ 0
+    → after c base d window staging journal used ≡ toldAfter (stagingAfter c staging) used (perform base (lending (length staging)) (actOf c) (worldOf d window journal used))
+unfolding after unlessStopped
+act-goes base d window journal used c staging e = rw e
 
 -- ---- every refusal
 
@@ -208,8 +225,8 @@ module _ (c : Asked) (base : ℕ) (d : Device) (window staging journal : List �
 
     told-refused : (n : ℕ) → perform base (lending (length staging)) (actOf c) (worldOf d window journal used) ≡ unmade n (cleared (worldOf d window journal used))
         → after c base d window staging journal used ≡ told n Heard.Nothing d window (stagingAfter c staging) (take used journal ++ replicate (length journal - used) 0) used
-    unfolding after unlessStopped cleared toldAfter
-    told-refused n e = rw (right, e, length-drop used journal)
+    unfolding cleared toldAfter
+    told-refused n e = act-goes base d window journal used c staging right ∙ rw (e, toldAfter, length-drop used journal)
 
     -- an act refused at a step: undoing its records gives back window and device
     pub rolls-back : (n : ℕ) (v : World) → go base (lending (length staging)) (actOf c) (worldOf d window journal used) ≡ no n v
