@@ -19,7 +19,7 @@
  * other pointer); the ranges of one call overlap neither each other nor the
  * device; of a struct kp_device besides, that it is aligned as the compiler
  * aligns it, that every byte was set once (static, calloc or = {0} will do),
- * and that ignore_masks is 0 or 1. Every other content is a device. */
+ * and that ignore_masks and chip are 0 or 1. Every other content is a device. */
 #ifndef KOUNPHERAY_H
 #define KOUNPHERAY_H
 
@@ -31,7 +31,7 @@ extern "C" {
 #endif
 
 /* Rises by one when an entry gets another argument. */
-#define KP_ABI 1
+#define KP_ABI 2
 
 /* The length of a device image. */
 #define KP_IMAGE 8720
@@ -39,8 +39,14 @@ extern "C" {
 /* The length of a journal record; used lengths are multiples of it. */
 #define KP_RECORD 16
 
+/* How a run serves the channels: chosen when a device is made, and changed by
+ * no call. */
+#define KP_MODE_OLD 0u  /* as the Rust that was ported: lowest channel first, whole loops */
+#define KP_MODE_CHIP 1u /* as the chip: one minor loop a turn, by priority */
+
 /* The blocks of the registers, 0x4000 bytes each. */
 #define KP_DMA 0xFC044000u
+#define KP_PRIORITY(channel) (KP_DMA + 0x100u + (channel)) /* one byte for each channel */
 #define KP_TABLE 0xFC045000u /* 64 descriptors of 32 bytes, in the DMA's block */
 #define KP_CONTROLLER(n) (0xFC048000u + 0x4000u * (n)) /* n: 0, 1 or 2 */
 
@@ -106,8 +112,10 @@ struct kp_device {
     uint64_t majors[64];
     uint64_t taken[192]; /* how often vector 64 + n was taken */
     uint32_t pending[64];
+    uint8_t priorities[64]; /* in KP_MODE_CHIP, of which the low six bits count */
     struct kp_controller controllers[3];
     uint8_t ignore_masks; /* 0 or 1 */
+    uint8_t chip;         /* the mode: KP_MODE_OLD or KP_MODE_CHIP */
 };
 
 /* The compiler lays it out as the archive has it: else this does not compile. */
@@ -118,22 +126,25 @@ typedef char kp_device_layout[(sizeof(struct kp_controller) == 96 &&
                                offsetof(struct kp_scalars, standing) == 56 &&
                                offsetof(struct kp_scalars, cr) == 64 &&
                                offsetof(struct kp_scalars, level) == 68 &&
-                               sizeof(struct kp_device) == 5232 &&
+                               sizeof(struct kp_device) == 5296 &&
                                offsetof(struct kp_device, table) == 72 &&
                                offsetof(struct kp_device, busy) == 2120 &&
                                offsetof(struct kp_device, majors) == 2632 &&
                                offsetof(struct kp_device, taken) == 3144 &&
                                offsetof(struct kp_device, pending) == 4680 &&
-                               offsetof(struct kp_device, controllers) == 4936 &&
-                               offsetof(struct kp_device, ignore_masks) == 5224)
+                               offsetof(struct kp_device, priorities) == 4936 &&
+                               offsetof(struct kp_device, controllers) == 5000 &&
+                               offsetof(struct kp_device, ignore_masks) == 5288 &&
+                               offsetof(struct kp_device, chip) == 5289)
                                   ? 1
                                   : -1];
 
-/* Makes a fresh device: zero in every field but the masks (all ones) and the
- * deadline (2^64 - 1). ignore_masks: 0, or 1 for a device whose controllers
- * ignore their masks; 255 is answered for any other number, and the device
- * stays. */
-uint64_t kp_device_fresh(struct kp_device *device, uint32_t ignore_masks);
+/* Makes a fresh device: zero in every field but the masks (all ones), the
+ * deadline (2^64 - 1) and, in KP_MODE_CHIP, the priorities (each channel's own
+ * number). ignore_masks: 0, or 1 for a device whose controllers ignore their
+ * masks. mode: KP_MODE_OLD or KP_MODE_CHIP. 255 is answered for any other number
+ * in either place, and the device stays. */
+uint64_t kp_device_fresh(struct kp_device *device, uint32_t ignore_masks, uint32_t mode);
 
 /* Reads a register. Writes nothing. */
 uint64_t kp_device_read(const struct kp_device *device, uint32_t address, uint32_t size);
@@ -141,7 +152,9 @@ uint64_t kp_device_read(const struct kp_device *device, uint32_t address, uint32
 /* The acts. Each that is accepted writes one group behind the used part of
  * the journal and answers the new used length. */
 
-/* Writes a register. */
+/* Writes a register. A byte at KP_PRIORITY keeps its low six bits in
+ * KP_MODE_CHIP, and is readable there; in KP_MODE_OLD it changes nothing, and
+ * reading it is refused with 3. */
 uint64_t kp_device_write(struct kp_device *device, uint32_t address, uint32_t size,
                          uint32_t value, uint8_t *journal, size_t journal_len, uint64_t used);
 
@@ -155,20 +168,31 @@ uint64_t kp_device_inputs(struct kp_device *device, uint64_t standing, uint64_t 
                           uint64_t used);
 
 /* Adds to the requests that a channel has pending; one is spent for each pass.
- * 14, and nothing is changed, where the sum would pass 2^32 - 1. This alone
- * gives no channel work, since it sets no KICK bit: a run that follows at once
- * moves nothing. For frames that have come, call this, then kp_device_inputs
- * with the masks last given, then kp_device_run. */
+ * 14, and nothing is changed, where the sum would pass 2^32 - 1. This sets no
+ * KICK bit: in KP_MODE_OLD a run that follows at once moves nothing, and neither
+ * does a service in KP_MODE_CHIP. For frames that have come, call this, then
+ * kp_device_inputs with the masks last given, then kp_device_run. */
 uint64_t kp_device_pending(struct kp_device *device, uint32_t channel, uint32_t count,
                            uint8_t *journal, size_t journal_len, uint64_t used);
 
-/* Runs every channel with work waiting. Staging is all zero afterwards, but
- * after refusals 5, 6 and 7, which leave it alone. */
+/* Runs the channels that have work. Staging is all zero afterwards, but after
+ * refusals 5, 6 and 7, which leave it alone.
+ *
+ * KP_MODE_OLD: each of at most 4,096 turns takes the lowest channel with a KICK
+ * bit. START moves a whole major loop; else, with ERQ set, minor loops are made
+ * for as long as the channel requests.
+ *
+ * KP_MODE_CHIP: each of at most 4,096 turns makes one minor loop. Of the channels
+ * that have START, or ERQ and a request, and are not busy past `now`, it is for
+ * the one with the highest priority, the higher number among equals. KICK bits
+ * are not asked for; a channel that is served loses its own. One whose count is
+ * 0 moves nothing and is passed over for the rest of the call. */
 uint64_t kp_device_run(struct kp_device *device, uint64_t now, uint64_t pace, uint32_t base,
                        uint8_t *window, size_t window_len, uint8_t *staging, size_t staging_len,
                        uint8_t *journal, size_t journal_len, uint64_t used);
 
-/* Offers busy and deferred channels again, and runs. */
+/* Offers busy and deferred channels again, and runs if a KICK bit is set then,
+ * in both modes. */
 uint64_t kp_device_service(struct kp_device *device, uint64_t now, uint64_t pace, uint32_t base,
                            uint8_t *window, size_t window_len, uint8_t *staging,
                            size_t staging_len, uint8_t *journal, size_t journal_len,
@@ -185,8 +209,8 @@ uint64_t kp_device_take_back(struct kp_device *device, uint32_t base, uint8_t *w
                              size_t window_len, uint8_t *journal, size_t journal_len,
                              uint64_t used);
 
-/* Lays the device down as an image; 255, and nothing is written, where
- * image_len is not KP_IMAGE. */
+/* Lays the device down as an image, of a priority the low six bits; 255, and
+ * nothing is written, where image_len is not KP_IMAGE. */
 uint64_t kp_device_save(const struct kp_device *device, uint8_t *image, size_t image_len);
 
 /* Reads the device from an image; 255, and the device stays, where the bytes
@@ -196,7 +220,7 @@ uint64_t kp_device_load(struct kp_device *device, const uint8_t *image, size_t i
 /* ---- the same calls on an image: libentries.a. Each answers 255, and changes
  * nothing, where the bytes are no image. */
 
-uint64_t kp_fresh(uint8_t *image, size_t image_len, uint32_t ignore_masks);
+uint64_t kp_fresh(uint8_t *image, size_t image_len, uint32_t ignore_masks, uint32_t mode);
 
 uint64_t kp_read(const uint8_t *image, size_t image_len, uint32_t address, uint32_t size);
 

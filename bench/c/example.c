@@ -1,6 +1,7 @@
 /* The entries from C: sets a channel up by register writes, moves a block,
  * takes its interrupt, moves two frames that a line driver reports, saves the
- * device and loads it again, and takes everything back.
+ * device and loads it again, and takes everything back. Then a device that
+ * serves its channels as the chip does it.
  *
  *   cc -I include bench/c/example.c target/staticlib/libdirect.a -o example
  *
@@ -83,12 +84,39 @@ static void frames(uint32_t channel, uint32_t count)
                                       used));
 }
 
+/* In the chip's mode a start is one minor loop: two channels of two loops each,
+ * both to the same byte, move one byte each, the lower priority last. */
+static void as_the_chip(void)
+{
+    uint32_t channel;
+    uint64_t answer;
+
+    used = 0;
+    expect("fresh", kp_status(kp_device_fresh(&device, 0, KP_MODE_CHIP)), KP_ACCEPTED);
+    for (channel = 1; channel <= 2; channel++) {
+        put(KP_TABLE + 32 * channel + 0x00, 4, BASE + channel); /* saddr */
+        put(KP_TABLE + 32 * channel + 0x08, 4, 1);              /* nbytes */
+        put(KP_TABLE + 32 * channel + 0x10, 4, BASE);           /* daddr */
+        put(KP_TABLE + 32 * channel + 0x14, 2, 2);              /* citer */
+        put(KP_TABLE + 32 * channel + 0x1C, 2, 2);              /* biter */
+        put(KP_TABLE + 32 * channel + 0x1E, 2, 0x0001);         /* csr: START */
+    }
+    put(KP_PRIORITY(1), 1, 0xC0 | 40); /* above channel 2's, its own number */
+    answer = kp_device_read(&device, KP_PRIORITY(1), 1);
+    expect("six bits", kp_low(answer), 40);
+    run();
+    expect("channel 2 came last", window[0], window[2]);
+    for (channel = 1; channel <= 2; channel++)
+        expect("one loop each", device.table[32 * channel + 0x15], 1);
+    printf("as the chip does it: one minor loop a start, by priority\n");
+}
+
 int main(void)
 {
     uint64_t answer, acts = 0;
     size_t n;
 
-    expect("fresh", kp_status(kp_device_fresh(&device, 0)), KP_ACCEPTED);
+    expect("fresh", kp_status(kp_device_fresh(&device, 0, KP_MODE_OLD)), KP_ACCEPTED);
     expect("save", kp_status(kp_device_save(&device, fresh, sizeof fresh)), KP_ACCEPTED);
     for (n = 0; n < 3 * BLOCK; n++)
         window[n] = (uint8_t)(7 * n + 1);
@@ -123,7 +151,8 @@ int main(void)
     expect("a read beside all registers", kp_status(answer), KP_ADDRESS);
 
     expect("save", kp_status(kp_device_save(&device, image, sizeof image)), KP_ACCEPTED);
-    expect("spoilt", kp_status(kp_device_fresh(&device, 1)), KP_ACCEPTED);
+    expect("no such mode", kp_status(kp_device_fresh(&device, 0, 2)), KP_NOT_A_DEVICE);
+    expect("spoilt", kp_status(kp_device_fresh(&device, 1, KP_MODE_CHIP)), KP_ACCEPTED);
     expect("load", kp_status(kp_device_load(&device, image, sizeof image)), KP_ACCEPTED);
     while (used != 0) {
         accept("take back", kp_device_take_back(&device, BASE, window, sizeof window, journal,
@@ -138,5 +167,7 @@ int main(void)
     for (n = 512; n < sizeof window; n++)
         expect("empty again", window[n], 0);
     printf("%" PRIu64 " acts taken back; the device is fresh again\n", acts);
+
+    as_the_chip();
     return 0;
 }

@@ -49,4 +49,5 @@ fn the_example_in_c() {
     let told = output(&mut command);
     println!("{told}");
     assert!(told.contains("20 acts taken back"), "{told}");
+    assert!(told.contains("as the chip does it"), "{told}");
 }

@@ -581,6 +581,6 @@ fn images_that_are_no_device() {
         }
     }
     let mut short = vec![1; 8719];
-    assert_eq!(images::fresh(&mut short, false).status(), 255);
+    assert_eq!(images::fresh(&mut short, 0, 0).status(), 255);
     assert!(short.iter().all(|&byte| byte == 1), "a refused image is unchanged");
 }

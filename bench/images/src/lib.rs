@@ -16,7 +16,7 @@ use kounpheray::entries::{Answer, Lent, LentJournal};
 use kounpheray::Time;
 
 extern "C" {
-    fn kp_fresh(image: *mut u8, image_len: usize, ignore_masks: u32) -> u64;
+    fn kp_fresh(image: *mut u8, image_len: usize, ignore_masks: u32, mode: u32) -> u64;
     fn kp_read(image: *const u8, image_len: usize, address: u32, size: u32) -> u64;
     fn kp_write(
         image: *mut u8,
@@ -96,10 +96,10 @@ extern "C" {
     ) -> u64;
 }
 
-/// Makes a fresh device in the image.
-pub fn fresh(image: &mut [u8], ignore_masks: bool) -> Answer {
+/// Makes a fresh device in the image; 0 and 1 are the settings that there are.
+pub fn fresh(image: &mut [u8], ignore_masks: u32, mode: u32) -> Answer {
     // SAFETY: as the module says.
-    Answer(unsafe { kp_fresh(image.as_mut_ptr(), image.len(), u32::from(ignore_masks)) })
+    Answer(unsafe { kp_fresh(image.as_mut_ptr(), image.len(), ignore_masks, mode) })
 }
 
 /// Reads a register.
@@ -173,7 +173,7 @@ pub fn pending(image: &mut [u8], channel: u32, count: u32, journal: LentJournal<
     })
 }
 
-/// Runs every channel with work waiting.
+/// Runs the channels that have work, as the device's mode has it.
 pub fn run(
     image: &mut [u8],
     time: Time,

@@ -258,7 +258,7 @@ impl Bench {
     }
 
     /// Puts the standing requests and the lines; every requesting channel
-    /// with its ERQ bit set then has work waiting. What is given here takes
+    /// with its ERQ bit set then has work waiting, its KICK bit. What is given here takes
     /// the place of all that was given before: lines that are to stay up are
     /// given again. ([`Device::inputs`] says which they are.) Only the lines
     /// that the DMA drives itself stay as they are, whatever is given.
@@ -271,10 +271,12 @@ impl Bench {
     /// Adds to the requests that a channel has pending; one is spent for each
     /// pass. Refused with 14 where the sum would pass 2^32 - 1.
     ///
-    /// This alone gives no channel work: a [`run`](Bench::run) that follows
-    /// moves nothing, since only registers and [`inputs`](Bench::inputs) set a
-    /// channel's KICK bit. So `inputs` comes in between; or
-    /// [`frames_arrived`](Bench::frames_arrived) does both.
+    /// In the old mode this alone gives no channel work: a [`run`](Bench::run)
+    /// that follows moves nothing, since only registers and
+    /// [`inputs`](Bench::inputs) set a channel's KICK bit. So `inputs` comes in
+    /// between; or [`frames_arrived`](Bench::frames_arrived) does both. In the
+    /// chip's mode a run looks at the requests themselves, and only a
+    /// [`service`](Bench::service) looks for KICK bits first.
     pub fn pending(&mut self, channel: Channel, count: u32) -> Result<(), Refusal> {
         let journal = LentJournal { bytes: &mut self.journal, used: self.used as u64 };
         let number = u32::from(channel.number());
@@ -323,7 +325,37 @@ impl Bench {
         })
     }
 
-    /// Runs every channel with work waiting.
+    /// Runs the channels that have work.
+    ///
+    /// In the old mode these are the channels with a KICK bit, lowest first,
+    /// each for as long as it has work. In the chip's mode each of at most 4,096
+    /// turns is one minor loop of the channel that comes first by its priority:
+    ///
+    /// ```
+    /// use kounpheray::{csr, Bench, Channel, Device, DmaRegister, Mode, Settings, Tcd, Time};
+    ///
+    /// let device = Device::with(Settings { mode: Mode::Chip, ..Settings::default() });
+    /// let mut bench = Bench::new(0x8000_0000, b"ab....".to_vec()).with_device(device);
+    /// for (n, channel) in [Channel::new(3), Channel::new(9)].into_iter().enumerate() {
+    ///     // Both to the same place, and two minor loops long.
+    ///     bench.write_descriptor(channel, &Tcd {
+    ///         saddr: 0x8000_0000 + n as u32,
+    ///         nbytes: 1,
+    ///         daddr: 0x8000_0002,
+    ///         citer: 2,
+    ///         doff: 1,
+    ///         biter: 2,
+    ///         csr: csr::START,
+    ///         ..Tcd::default()
+    ///     })?;
+    /// }
+    /// // Channel 9 would come first; with this, channel 3 does.
+    /// bench.write(DmaRegister::Priority(Channel::new(3)), 60)?;
+    /// bench.run(Time { now: 0, pace: 0 })?;
+    /// // One loop a start: the second place is as it was.
+    /// assert_eq!(bench.window(), b"abb...");
+    /// # Ok::<(), kounpheray::Refusal>(())
+    /// ```
     pub fn run(&mut self, time: Time) -> Result<(), Refusal> {
         let memory = Lent { base: self.base, window: &mut self.window };
         let journal = LentJournal { bytes: &mut self.journal, used: self.used as u64 };
@@ -331,7 +363,8 @@ impl Bench {
         self.stands(answer, Act::Run(time))
     }
 
-    /// Offers busy and deferred channels again, and runs.
+    /// Offers busy and deferred channels again, and runs if a KICK bit is set
+    /// then.
     pub fn service(&mut self, time: Time) -> Result<(), Refusal> {
         let memory = Lent { base: self.base, window: &mut self.window };
         let journal = LentJournal { bytes: &mut self.journal, used: self.used as u64 };

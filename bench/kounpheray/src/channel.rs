@@ -1,4 +1,5 @@
-//! Channels, controllers and sources: numbers that can't be out of range.
+//! Channels, priorities, controllers and sources: numbers that can't be out of
+//! range.
 
 use std::fmt;
 
@@ -59,6 +60,36 @@ impl Channel {
 impl fmt::Display for Channel {
     fn fmt(&self, to: &mut fmt::Formatter<'_>) -> fmt::Result {
         write!(to, "channel {}", self.0)
+    }
+}
+
+/// A channel's priority in the chip's mode: 0 to 63. Of the channels that have
+/// work the one with the highest is served, the higher number among equals.
+#[derive(Clone, Copy, Debug, PartialEq, Eq, PartialOrd, Ord, Hash)]
+pub struct Priority(u8);
+
+impl Priority {
+    /// A priority by its value.
+    ///
+    /// # Panics
+    /// Where the value is above 63; in a constant, when it is compiled.
+    pub const fn new(value: u8) -> Priority {
+        assert!(value < 64, "a priority has six bits");
+        Priority(value)
+    }
+
+    /// A priority by its value, if that has six bits.
+    pub const fn checked(value: u8) -> Option<Priority> {
+        if value < 64 {
+            Some(Priority(value))
+        } else {
+            None
+        }
+    }
+
+    /// The priority's value.
+    pub const fn value(self) -> u8 {
+        self.0
     }
 }
 

@@ -55,7 +55,8 @@ pub struct Tcd {
 
 /// The bits of [`Tcd::csr`].
 pub mod csr {
-    /// A software start: the whole major loop.
+    /// A software start: the whole major loop, and in the chip's mode one minor
+    /// loop.
     pub const START: u16 = 0x0001;
     /// An interrupt at the end of a major loop.
     pub const INTMAJOR: u16 = 0x0002;

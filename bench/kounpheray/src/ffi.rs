@@ -4,8 +4,8 @@
 //! Why each call is sound. The entries are total: for any device, slices and
 //! numbers they read and write nothing but what they are lent, and return. A
 //! [`Device`] holds a struct of the layout that the archive has (module `raw`
-//! asserts it), aligned and initialised, in which the one byte that is not free
-//! is a `bool`. A Rust slice is a pointer that is never null, also where it is
+//! asserts it), aligned and initialised, in which the two bytes that are not free
+//! are `bool`s. A Rust slice is a pointer that is never null, also where it is
 //! empty, to that many initialised bytes; what is borrowed mutably at the same
 //! time does not overlap, and nobody else looks at it during the call. The
 //! entries keep no pointer after they return and never unwind. So whatever is
@@ -20,7 +20,7 @@ use crate::raw::RawDevice;
 // `bool` and nested structs with declared layout pass behind a pointer as C has
 // them.
 extern "C" {
-    fn kp_device_fresh(device: *mut RawDevice, ignore_masks: u32) -> u64;
+    fn kp_device_fresh(device: *mut RawDevice, ignore_masks: u32, mode: u32) -> u64;
     fn kp_device_read(device: *const RawDevice, address: u32, size: u32) -> u64;
     fn kp_device_write(
         device: *mut RawDevice,
@@ -95,10 +95,10 @@ extern "C" {
     fn kp_device_load(device: *mut RawDevice, image: *const u8, image_len: usize) -> u64;
 }
 
-/// Makes the device a fresh one.
-pub fn fresh(device: &mut Device, ignore_masks: bool) -> Answer {
+/// Makes the device a fresh one; 0 and 1 are the settings that there are.
+pub fn fresh(device: &mut Device, ignore_masks: u32, mode: u32) -> Answer {
     // SAFETY: as the module says.
-    Answer(unsafe { kp_device_fresh(&mut *device.raw, u32::from(ignore_masks)) })
+    Answer(unsafe { kp_device_fresh(&mut *device.raw, ignore_masks, mode) })
 }
 
 /// Reads a register.
@@ -162,7 +162,7 @@ pub fn pending(device: &mut Device, channel: u32, count: u32, journal: LentJourn
     })
 }
 
-/// Runs every channel with work waiting.
+/// Runs the channels that have work, as the device's mode has it.
 pub fn run(
     device: &mut Device,
     time: Time,

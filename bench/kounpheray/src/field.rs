@@ -2,6 +2,7 @@
 //! numbers stay in this module and in [`crate::image`].
 
 use crate::channel::{Channel, Controller, Source};
+use crate::settings::Mode;
 use std::fmt;
 
 /// A field of the device.
@@ -46,6 +47,8 @@ pub enum Field {
     SourceLevel(Controller, Source),
     /// How often a source's interrupt was taken.
     Taken(Controller, Source),
+    /// A channel's priority; a field of the chip's mode alone.
+    Priority(Channel),
 }
 
 const SCALARS: [Field; 10] = [
@@ -62,7 +65,7 @@ const SCALARS: [Field; 10] = [
 ];
 
 impl Field {
-    /// Document 01's number of the field.
+    /// The documents' number of the field.
     pub const fn number(self) -> u16 {
         match self {
             Field::Cr => 0,
@@ -84,10 +87,11 @@ impl Field {
             Field::Pending(channel) => 192 + channel.number() as u16,
             Field::SourceLevel(c, s) => 256 + 64 * c.number() as u16 + s.number() as u16,
             Field::Taken(c, s) => 576 + 64 * c.number() as u16 + s.number() as u16,
+            Field::Priority(channel) => 768 + channel.number() as u16,
         }
     }
 
-    /// The field with this number.
+    /// The field with this number, in whichever mode.
     pub fn from_number(number: u16) -> Option<Field> {
         let low = (number % 64) as u8;
         let of = |first: u16| Controller::ALL[usize::from((number - first) / 64)];
@@ -107,21 +111,37 @@ impl Field {
             192..=255 => Field::Pending(Channel::new(low)),
             256..=447 => Field::SourceLevel(of(256), Source::new(low)),
             576..=767 => Field::Taken(of(576), Source::new(low)),
+            768..=831 => Field::Priority(Channel::new(low)),
             _ => return None,
         })
     }
 
-    /// The field's width in bits.
+    /// Whether a device in this mode has the field.
+    pub const fn is_of(self, mode: Mode) -> bool {
+        matches!(mode, Mode::Chip) || !matches!(self, Field::Priority(_))
+    }
+
+    /// The field's width in bits, and none where the mode lacks the field.
+    pub const fn bits_in(self, mode: Mode) -> u32 {
+        if self.is_of(mode) {
+            self.bits()
+        } else {
+            0
+        }
+    }
+
+    /// The field's width in bits, in a mode that has it.
     pub const fn bits(self) -> u32 {
         match self {
             Field::Cr | Field::Pending(_) => 32,
             Field::Iconfig(_) => 16,
             Field::Level | Field::SourceLevel(..) => 8,
+            Field::Priority(_) => 6,
             _ => 64,
         }
     }
 
-    /// Whether a value fits into the field.
+    /// Whether a value fits into the field, in a mode that has it.
     pub const fn fits(self, value: u64) -> bool {
         self.bits() == 64 || value >> self.bits() == 0
     }
@@ -153,6 +173,7 @@ impl fmt::Display for Field {
             Field::Taken(c, s) => {
                 return write!(to, "taken of controller {} source {}", c.number(), s.number())
             }
+            Field::Priority(channel) => return write!(to, "priority of {channel}"),
         };
         to.write_str(name)
     }
@@ -161,6 +182,7 @@ impl fmt::Display for Field {
 #[cfg(test)]
 mod tests {
     use super::Field;
+    use crate::settings::Mode;
 
     #[test]
     fn numbers_go_both_ways() {
@@ -169,6 +191,10 @@ mod tests {
             assert_eq!(field.number(), number);
             Some(field)
         });
-        assert_eq!(named.count(), 10 + 12 + 3 * 64 + 3 * 64 + 3 * 64);
+        let named: Vec<Field> = named.collect();
+        assert_eq!(named.len(), 10 + 12 + 3 * 64 + 3 * 64 + 3 * 64 + 64);
+        let old = named.iter().filter(|field| field.is_of(Mode::Old)).count();
+        assert_eq!(old, named.len() - 64, "the priorities are of the chip's mode alone");
+        assert!(named.iter().all(|field| field.is_of(Mode::Chip)));
     }
 }

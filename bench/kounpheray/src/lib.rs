@@ -7,6 +7,8 @@
 //! undoes it exactly, and so that [`Bench::origin`] can say which act and
 //! which channel put a byte where it is.
 //!
+//! A device serves its channels in one of two [`Mode`]s, chosen when it is made.
+//!
 //! The example of document 01, with its journal of twelve records:
 //!
 //! ```
@@ -53,6 +55,7 @@ mod lent;
 mod raw;
 mod refusal;
 mod register;
+mod settings;
 
 pub mod entries {
     //! The C entries as they are, over a device, a window and a journal that
@@ -67,7 +70,7 @@ pub mod entries {
 
 pub use answer::Taken;
 pub use bench::{Act, Bench, Origin};
-pub use channel::{Channel, Controller, Source};
+pub use channel::{Channel, Controller, Priority, Source};
 pub use descriptor::{csr, Count, Size, Tcd, TcdField, TCD};
 pub use device::{Device, TooWide, IMAGE};
 pub use field::Field;
@@ -75,3 +78,4 @@ pub use journal::{Group, Journal, MemoryStore, NotAJournal, Record, Stored, Tabl
 pub use lent::Time;
 pub use refusal::Refusal;
 pub use register::{ControllerRegister, DmaRegister, Register, Select, CR_EMLM};
+pub use settings::{Mode, Settings};

@@ -41,8 +41,10 @@ pub(crate) struct RawDevice {
     pub(crate) majors: [u64; 64],
     pub(crate) taken: [u64; 192],
     pub(crate) pending: [u32; 64],
+    pub(crate) priorities: [u8; 64],
     pub(crate) controllers: [RawController; 3],
     pub(crate) ignore_masks: bool,
+    pub(crate) chip: bool,
 }
 
 impl RawDevice {
@@ -65,22 +67,26 @@ impl RawDevice {
         majors: [0; 64],
         taken: [0; 192],
         pending: [0; 64],
+        priorities: [0; 64],
         controllers: [RawController { masks: 0, forced: 0, lines: 0, levels: [0; 64], config: 0 };
             3],
         ignore_masks: false,
+        chip: false,
     };
 }
 
 const _: () = {
-    assert!(size_of::<RawDevice>() == 5232 && align_of::<RawDevice>() == 8);
+    assert!(size_of::<RawDevice>() == 5296 && align_of::<RawDevice>() == 8);
     assert!(offset_of!(RawDevice, scalars) == 0);
     assert!(offset_of!(RawDevice, table) == 72);
     assert!(offset_of!(RawDevice, busy) == 2120);
     assert!(offset_of!(RawDevice, majors) == 2632);
     assert!(offset_of!(RawDevice, taken) == 3144);
     assert!(offset_of!(RawDevice, pending) == 4680);
-    assert!(offset_of!(RawDevice, controllers) == 4936);
-    assert!(offset_of!(RawDevice, ignore_masks) == 5224);
+    assert!(offset_of!(RawDevice, priorities) == 4936);
+    assert!(offset_of!(RawDevice, controllers) == 5000);
+    assert!(offset_of!(RawDevice, ignore_masks) == 5288);
+    assert!(offset_of!(RawDevice, chip) == 5289);
     assert!(size_of::<RawScalars>() == 72);
     assert!(offset_of!(RawScalars, standing) == 56);
     assert!(offset_of!(RawScalars, cr) == 64);

@@ -64,7 +64,9 @@ pub enum DmaRegister {
     RequestsHigh,
     /// Requests at the pins, channels 0 to 31; read only, and 0.
     RequestsLow,
-    /// A channel's priority; written only, and without effect.
+    /// A channel's priority. In the chip's mode the low six bits of what is
+    /// written are kept. In the old mode it can be written only, and nothing
+    /// changes.
     Priority(Channel),
 }
 

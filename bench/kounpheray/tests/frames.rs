@@ -2,6 +2,7 @@
 
 use kounpheray::{csr, Tcd, Time};
 use kounpheray::{Act, Bench, Channel, Controller, DmaRegister, Field, Refusal, Select, Size};
+use kounpheray::{Device, Mode, Settings};
 
 const CHANNEL: Channel = Channel::new(7);
 const AT_ONCE: Time = Time { now: 0, pace: 0 };
@@ -9,7 +10,13 @@ const AT_ONCE: Time = Time { now: 0, pace: 0 };
 /// Frames of two bytes from the window's first half to its second, with an
 /// interrupt at the fourth.
 fn bench(journal: usize) -> Bench {
-    let mut bench = Bench::new(0x4000_0000, (0..16).collect()).with_journal(journal);
+    bench_of(Mode::Old, journal)
+}
+
+fn bench_of(mode: Mode, journal: usize) -> Bench {
+    let device = Device::with(Settings { mode, ..Settings::default() });
+    let bench = Bench::new(0x4000_0000, (0..16).collect()).with_device(device);
+    let mut bench = bench.with_journal(journal);
     let tcd = Tcd {
         saddr: 0x4000_0000,
         attr: Tcd::attr(Size::Two, 0, Size::Two, 0),
@@ -34,13 +41,28 @@ fn pending(bench: &Bench) -> u64 {
 
 #[test]
 fn frames_are_counted_and_moved() -> Result<(), Refusal> {
-    let mut bench = bench(Bench::JOURNAL);
-    bench.frames_arrived(CHANNEL, 1)?;
-    bench.frames_arrived(CHANNEL, 2)?;
-    assert_eq!(pending(&bench), 3);
+    for mode in Mode::ALL {
+        let mut bench = bench_of(mode, Bench::JOURNAL);
+        bench.frames_arrived(CHANNEL, 1)?;
+        bench.frames_arrived(CHANNEL, 2)?;
+        assert_eq!(pending(&bench), 3);
+        bench.run(AT_ONCE)?;
+        assert_eq!(pending(&bench), 0, "{mode:?}");
+        assert_eq!(bench.window()[8..], [0, 1, 2, 3, 4, 5, 14, 15], "{mode:?}");
+    }
+    Ok(())
+}
+
+/// In the chip's mode a run asks for no KICK bit; a service does.
+#[test]
+fn pending_alone_moves_as_the_chip_does_it() -> Result<(), Refusal> {
+    let mut bench = bench_of(Mode::Chip, Bench::JOURNAL);
+    bench.pending(CHANNEL, 2)?;
+    bench.service(AT_ONCE)?;
+    assert_eq!(pending(&bench), 2);
     bench.run(AT_ONCE)?;
     assert_eq!(pending(&bench), 0);
-    assert_eq!(bench.window()[8..], [0, 1, 2, 3, 4, 5, 14, 15]);
+    assert_eq!(bench.window()[8..], [0, 1, 2, 3, 12, 13, 14, 15]);
     Ok(())
 }
 
