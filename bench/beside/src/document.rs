@@ -7,7 +7,7 @@ use crate::recorded::{
     call_rows, eight_bytes, lines, place, Answered, Begin, Row, FORMAT, JOURNAL_AT,
     JOURNAL_LENT_AT, STAGING_LENT_AT, USED_AT, WINDOW_AT,
 };
-use kounpheray::{Channel, Controller, Field, Source, Tcd, CR_EMLM, RECORD, TCD};
+use kounpheray::{csr, Channel, Controller, Field, Mode, Source, Tcd, Time, CR_EMLM, RECORD, TCD};
 use Controller::{One, Two, Zero};
 
 const HEAD: &str = "\
@@ -34,6 +34,7 @@ pub fn text() -> String {
     passes(&mut list);
     run_only(&mut list);
     damage(&mut list);
+    as_the_chip(&mut list);
     list.text
 }
 
@@ -70,13 +71,18 @@ impl List {
         self.text += &lines(rows);
     }
 
-    /// A case with masks in force, its window `first`, `first + step`, ..
+    /// A case in the old mode with masks in force, its window `first`,
+    /// `first + step`, ..
     fn case(&mut self, what: &str, length: u32, first: u8, step: u8) {
+        self.case_in(Mode::Old, what, length, first, step);
+    }
+
+    fn case_in(&mut self, mode: Mode, what: &str, length: u32, first: u8, step: u8) {
         self.text += "\n";
         self.note(what);
         let number = self.cases;
-        let begin =
-            Begin { ignore_masks: false, number, base: BASE, length, first, step, filled: 0xEE };
+        let (ignore_masks, base) = (false, BASE);
+        let begin = Begin { mode, ignore_masks, number, base, length, first, step, filled: 0xEE };
         self.cases += 1;
         self.used = 0;
         self.bytes.fill(0xEE);
@@ -598,4 +604,201 @@ fn damage(list: &mut List) {
     for change in undone(&before) {
         list.change(true, change);
     }
+}
+
+// ---- document 02, [10]: as the chip does it, over a window 00 01 02 ..
+
+const LOW: Channel = Channel::new(2);
+const HIGH: Channel = Channel::new(5);
+const PACED: Channel = Channel::PACED;
+
+/// Where both channels put their bytes.
+const TO: usize = 0x10;
+
+/// A byte from an offset of the window, so many loops long.
+fn byte(from: u32, loops: u16, control: u16) -> Tcd {
+    Tcd {
+        saddr: BASE + from,
+        nbytes: 1,
+        daddr: BASE + TO as u32,
+        citer: loops,
+        biter: loops,
+        csr: control,
+        ..Tcd::default()
+    }
+}
+
+/// The descriptor after so many loops that end no major loop.
+fn after(tcd: &Tcd, loops: u16) -> Vec<u8> {
+    Tcd { citer: tcd.citer - loops, csr: csr::ACTIVE, ..*tcd }.to_bytes().to_vec()
+}
+
+fn table(channel: Channel) -> usize {
+    TCD * usize::from(channel.number())
+}
+
+/// A case with these descriptors, of which all requests are enabled.
+fn begin_chip(list: &mut List, what: &str, tcds: &[(Channel, Tcd)]) {
+    list.case_in(Mode::Chip, what, 32, 0, 1);
+    for (channel, tcd) in tcds {
+        list.set(Bytes(table(*channel), &tcd.to_bytes()));
+    }
+    let all = tcds.iter().fold(0, |mask, (channel, _)| mask | channel.bit());
+    list.set(To(Field::Erq, all));
+}
+
+/// A run or service that makes so many passes, each with one store to the
+/// window and four to its descriptor: the fields that change, and what else
+/// does.
+fn served(list: &mut List, call: Call, passes: u64, fields: &[Change], rest: &[Change]) {
+    let added = RECORD as u64 * (5 * passes + fields.len() as u64 + 1);
+    let changes = [fields, rest].concat();
+    list.accepted(call, Answered::default(), added, &changes);
+}
+
+fn as_the_chip(list: &mut List) {
+    priorities(list);
+    starts(list);
+    requests(list);
+    paced(list);
+    damaged_priorities(list);
+}
+
+fn priorities(list: &mut List) {
+    list.case_in(Mode::Chip, "[10], priorities: six bits, at first the channel's number", 8, 0, 0);
+    let to = |channel: u8, value| To(Field::Priority(Channel::new(channel)), value);
+    list.see(DMA + 0x100, 1, Ok(0));
+    list.see(DMA + 0x13F, 1, Ok(63));
+    list.put((DMA + 0x105, 1, 0xFF), 32, &[to(5, 63)], Ok(63));
+    list.put((DMA + 0x105, 1, 0x7F), 16, &[], Ok(63));
+    list.put((DMA + 0x13F, 1, 0x40), 32, &[to(63, 0)], Ok(0));
+    for (offset, size) in
+        [(0x0FF, 1), (0x0FF, 2), (0x0FE, 4), (0x100, 2), (0x100, 4), (0x13F, 2), (0x140, 1)]
+    {
+        list.put_refused((DMA + offset, size, 1), 3, 3);
+    }
+    list.note("an image that holds more: the low six bits count, and are laid down by an act");
+    list.set(to(6, 0xC9));
+    list.see(DMA + 0x106, 1, Ok(9));
+    list.refused(Call::Write { address: DMA + 0x38, size: 4, value: 1 }, 3);
+    list.put((DMA + 0x107, 1, 1), 32, &[to(6, 9), to(7, 1)], Ok(1));
+    list.set(to(6, 0x49));
+    list.put((DMA + 0x106, 1, 0x89), 16, &[to(6, 9)], Ok(9));
+}
+
+/// The records of two passes: first channel 5's, then channel 2's.
+const TWO_PASSES: [u128; 11] = [
+    0x4a520001800000100000000000000010,
+    0x4a520104000000a00000000080000005,
+    0x4a520104000000b00000000080000010,
+    0x4a520102000000b40000000000000002,
+    0x4a520102000000be0000000000000001,
+    0x4a520001800000100000000000000005,
+    0x4a520104000000400000000080000002,
+    0x4a520104000000500000000080000010,
+    0x4a520102000000540000000000000002,
+    0x4a5201020000005e0000000000000001,
+    0x4a52030000000000000000000000000a,
+];
+
+fn starts(list: &mut List) {
+    let run = Call::Run(AT_ONCE);
+    let three = byte(2, 3, csr::START);
+    begin_chip(list, "[10], one minor loop a START", &[(LOW, three)]);
+    let moved = Bytes(WINDOW_AT + TO, &[2]);
+    served(list, run, 1, &[], &[Bytes(table(LOW), &after(&three, 1)), moved]);
+    served(list, run, 0, &[], &[]);
+    let (low, high) = (byte(2, 2, csr::START), byte(5, 2, csr::START));
+    let (low_after, high_after) = (after(&low, 1), after(&high, 1));
+    let both = [Bytes(table(LOW), &low_after), Bytes(table(HIGH), &high_after)];
+    // Which channel came last shows in the byte.
+    for (what, priority, last) in [
+        ("[10], the higher number first, where priorities are fresh", 2, 2),
+        ("[10], the higher priority first", 6, 5),
+        ("[10], the higher number first among equals", 5, 2),
+    ] {
+        begin_chip(list, what, &[(LOW, low), (HIGH, high)]);
+        list.set(To(Field::Priority(LOW), priority));
+        served(list, run, 2, &[], &[both[0], both[1], Bytes(WINDOW_AT + TO, &[last])]);
+        if priority == 2 {
+            list.change(true, Bytes(JOURNAL_AT, &bytes(&TWO_PASSES)));
+        }
+    }
+}
+
+fn requests(list: &mut List) {
+    let run = Call::Run(AT_ONCE);
+    let plain = byte(2, 9, 0);
+    let pending = |channel, count| To(Field::Pending(channel), count);
+    begin_chip(list, "[10], a loop for each of two requests", &[(LOW, plain)]);
+    list.set(pending(LOW, 2));
+    let moved = Bytes(WINDOW_AT + TO, &[2]);
+    let twice = after(&plain, 2);
+    served(list, run, 2, &[pending(LOW, 0)], &[Bytes(table(LOW), &twice), moved]);
+    let once = after(&plain, 1);
+    let tcds = [(LOW, Tcd { csr: csr::START, ..plain }), (HIGH, byte(5, 0, 0))];
+    begin_chip(list, "[10], channel 5 answers no, and is passed over", &tcds);
+    list.set(pending(HIGH, 3));
+    list.set(To(Field::Kick, HIGH.bit()));
+    let fields = [To(Field::Kick, 0), pending(HIGH, 2)];
+    served(list, run, 1, &fields, &[Bytes(table(LOW), &once), moved]);
+    let tcds = [(LOW, Tcd { csr: csr::START, ..plain })];
+    begin_chip(
+        list,
+        "[10], a service without a KICK bit makes no run, one with another's does",
+        &tcds,
+    );
+    served(list, Call::Service(AT_ONCE), 0, &[], &[]);
+    list.set(To(Field::Kick, HIGH.bit()));
+    served(list, Call::Service(AT_ONCE), 1, &[], &[Bytes(table(LOW), &once), moved]);
+    begin_chip(list, "[10], a busy channel waits, and is not deferred", &tcds);
+    list.set(To(Field::Busy(LOW), 100));
+    list.set(To(Field::Kick, LOW.bit()));
+    served(list, Call::Run(Time { now: 99, pace: 0 }), 0, &[], &[]);
+    let fields = [To(Field::Kick, 0)];
+    let rest = [Bytes(table(LOW), &once), moved];
+    served(list, Call::Run(Time { now: 100, pace: 0 }), 1, &fields, &rest);
+}
+
+fn paced(list: &mut List) {
+    let run = Call::Run(Time { now: 1000, pace: 7 });
+    let paced = byte(3, 9, 0);
+    let moved = Bytes(WINDOW_AT + TO, &[3]);
+    let once = after(&paced, 1);
+    let until = |time| [To(Field::Deadline, time), To(Field::Busy(PACED), time)];
+    begin_chip(list, "[10], channel 35 keeps its pace, and its count", &[(PACED, paced)]);
+    list.set(To(Field::Pending(PACED), 4));
+    served(list, run, 1, &until(1007), &[Bytes(table(PACED), &once), moved]);
+    served(list, run, 0, &[], &[]);
+    let started = Tcd { csr: csr::START, ..paced };
+    begin_chip(list, "[10], channel 35 with START has no pace", &[(PACED, started)]);
+    served(list, run, 1, &[], &[Bytes(table(PACED), &once), moved]);
+    begin_chip(list, "[10], channel 35 answers no: 0 bytes", &[(PACED, byte(3, 0, 0))]);
+    list.set(To(Field::Standing, PACED.bit()));
+    served(list, run, 0, &until(1000), &[]);
+}
+
+fn damaged_priorities(list: &mut List) {
+    list.case_in(Mode::Chip, "[10], records of priorities, made by hand", 8, 0, 0);
+    let end = 0x4a520300000000000000000000000001;
+    let one = |record| bytes(&[record, end]);
+    for (what, record) in [
+        ("a priority of seven bits", 0x4a520208000003050000000000000040),
+        ("no such field, past the last", 0x4a520208000003400000000000000001),
+    ] {
+        list.note(what);
+        list.set(Bytes(JOURNAL_AT, &one(record)));
+        list.lend(4, 256, 32);
+        list.refused(Call::TakeBack, 13);
+    }
+    list.note("sound");
+    list.set(Bytes(JOURNAL_AT, &one(0x4a52020800000305000000000000003f)));
+    list.lend(4, 256, 32);
+    list.refused(Call::TakeBack, 0);
+    list.rows(&[eight_bytes(true, USED_AT, 0)]);
+    list.change(true, To(Field::Priority(HIGH), 63));
+    list.case("[10], the same record in the old mode", 8, 0, 0);
+    list.set(Bytes(JOURNAL_AT, &one(0x4a52020800000305000000000000003f)));
+    list.lend(4, 256, 32);
+    list.refused(Call::TakeBack, 13);
 }

@@ -3,7 +3,7 @@
 use crate::call::Call;
 use crate::compare::Beside;
 use crate::world::World;
-use kounpheray::{Channel, Device, Field, Tcd, Time};
+use kounpheray::{Channel, Device, Field, Mode, Settings, Tcd, Time};
 use oracle::Oracle;
 
 /// Where the window begins if a case does not say.
@@ -74,9 +74,19 @@ pub fn memory(len: usize) -> Vec<u8> {
     (0..len).map(|at| (at * 167 + at / 256 * 31 + 13) as u8).collect()
 }
 
-/// A device in which one channel has one request pending.
+/// A fresh device in a mode.
+pub fn fresh(mode: Mode) -> Device {
+    Device::with(Settings { mode, ..Settings::default() })
+}
+
+/// A device in the old mode in which one channel has one request pending.
 pub fn one_request(channel: Channel, tcd: &Tcd) -> Device {
-    let mut device = Device::fresh();
+    one_request_in(Mode::Old, channel, tcd)
+}
+
+/// The same in either mode.
+pub fn one_request_in(mode: Mode, channel: Channel, tcd: &Tcd) -> Device {
+    let mut device = fresh(mode);
     device.set_descriptor(channel, tcd);
     put(&mut device, Field::Erq, channel.bit());
     put(&mut device, Field::Kick, channel.bit());

@@ -1,9 +1,9 @@
 //! What the tests share: random devices and calls, a world to make calls in
-//! that is checked after each, the comparison with the Rust, and counts.
+//! that is checked after each, the comparison with the Rust and with the model,
+//! and counts.
 
 pub mod call;
 pub mod compare;
-pub mod damage;
 pub mod difference;
 pub mod document;
 pub mod lab;

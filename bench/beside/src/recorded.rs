@@ -4,8 +4,8 @@
 
 use crate::call::Call;
 use crate::difference;
-use crate::world::World;
-use kounpheray::{Device, Field, Time, IMAGE};
+use crate::world::{seen, World};
+use kounpheray::{Device, Field, Mode, Settings, Time, IMAGE};
 use std::ops::Range;
 
 pub const FORMAT: &str = "\
@@ -29,8 +29,9 @@ pub const FORMAT: &str = "\
 #  01 A case begins: a fresh device. Byte 1: 1 where masks are ignored.
 #     Bytes 2..3: the case's number. 4..7: base. 8..11: the window's length.
 #     12, 13: a and b; byte i of the window's room is (a + b x i) mod 256.
-#     14: the byte that staging and journal are filled with. 16,000 bytes of
-#     journal and 500 of staging are lent; the other numbers are 0.
+#     14: the byte that staging and journal are filled with. 15: the mode, 0
+#     the old one, 1 as the chip does it. 16,000 bytes of journal and 500 of
+#     staging are lent; the other numbers are 0.
 #  02 Set eight bytes.  Bytes 4..7: their offset. 8..15: the bytes.
 #  10 Read.        Byte 1: size. 2: status. 4..7: address. 12..15: the value.
 #  11 Write.       Byte 1: size. 2: status. 4..7: address. 12..15: the value.
@@ -48,8 +49,9 @@ pub const FORMAT: &str = "\
 # says of every call under 'Refusal numbers': staging that is zero, journal
 # bytes that are zero after a refusal or a take-back. After an accepted act
 # its records and the used length are compared only where rows tell them. An
-# accepted act is also taken back, which leaves all as before it, and made
-# again. A refusal answers the used length that was given.
+# accepted act is also taken back, which leaves all as before it, of a priority
+# the low six bits, and made again. A refusal answers the used length that was
+# given.
 ";
 
 /// How much of a case's journal and staging is lent if no row says otherwise.
@@ -74,6 +76,7 @@ pub type Row = [u8; 16];
 /// How a case begins.
 #[derive(Clone, Copy, Debug)]
 pub struct Begin {
+    pub mode: Mode,
     pub ignore_masks: bool,
     pub number: u16,
     pub base: u32,
@@ -94,11 +97,13 @@ impl Begin {
         row[12] = self.first;
         row[13] = self.step;
         row[14] = self.filled;
+        row[15] = self.mode.number();
         row
     }
 
     fn from_row(row: &Row) -> Begin {
         Begin {
+            mode: if row[15] == 1 { Mode::Chip } else { Mode::Old },
             ignore_masks: row[1] == 1,
             number: number(&row[2..4]) as u16,
             base: number(&row[4..8]) as u32,
@@ -120,11 +125,7 @@ impl Begin {
     }
 
     pub fn device(&self) -> Device {
-        if self.ignore_masks {
-            Device::ignoring_masks()
-        } else {
-            Device::fresh()
-        }
+        Device::with(Settings { mode: self.mode, ignore_masks: self.ignore_masks })
     }
 }
 
@@ -251,14 +252,15 @@ pub fn play(rows: &[Row]) -> Result<(u64, u64), String> {
 }
 
 /// An act that was accepted is taken back, which leaves all as before it but
-/// for the journal's unused room, and made again, which leaves all as it did.
+/// for the journal's unused room and a priority's upper bits, and made again,
+/// which leaves all as it did.
 fn taken_back_and_made_again(before: &World, after: &World, call: Call) -> Result<(), String> {
     let mut world = after.clone();
     let answer = world.checked(Call::TakeBack)?;
     let used = before.used as usize;
     let as_before = answer.status() == 0
         && world.used == before.used
-        && world.image == before.image
+        && world.image == seen(&before.image)
         && world.window == before.window
         && world.journal[..used] == before.journal[..used];
     if !as_before {

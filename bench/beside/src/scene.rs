@@ -1,11 +1,15 @@
 //! Random devices and calls, close to where the rules change: sizes, modulo,
 //! counts and links, chains of descriptors, minor offsets, the channels that
-//! the Rust treats apart, busy times, the window's ends.
+//! the Rust treats apart, busy times, priorities, the window's ends.
 
 use crate::call::Call;
 use crate::random::Random;
+use crate::recorded::place;
 use crate::world::World;
-use kounpheray::{csr, Channel, Controller, Device, Field, Source, Tcd, TcdField, Time, TCD};
+use kounpheray::{
+    csr, Channel, Controller, Device, DmaRegister, Field, Mode, Register, Settings, Source, Tcd,
+    TcdField, Time, TCD,
+};
 
 /// A device, its memory, and which channels have descriptors.
 #[derive(Clone, Debug)]
@@ -27,19 +31,32 @@ const TIMES: [u64; 10] = [0, 1, 2, 50, 99, 100, 101, 5000, (1 << 62) - 1, 1 << 6
 const PACES: [u64; 6] = [0, 1, 2, 3, 1000, 1_000_000];
 
 impl Scene {
+    /// A scene in the old mode, mostly where equality with the Rust is claimed.
     pub fn new(random: &mut Random) -> Scene {
+        Scene::of(random, Mode::Old)
+    }
+
+    pub fn of(random: &mut Random, mode: Mode) -> Scene {
         let (base, window) = memory(random);
-        let device = if random.once_in(6) { Device::ignoring_masks() } else { Device::fresh() };
+        let device = Device::with(Settings { mode, ignore_masks: random.once_in(6) });
         let mut channels: Vec<Channel> = (0..=random.below(5)).map(|_| channel(random)).collect();
         if random.once_in(4) {
             channels.push(Channel::PACED);
         }
-        let counted = some_counted(random, &channels);
+        let counted = match mode {
+            Mode::Old => some_counted(random, &channels),
+            // A standing request is met in every turn: mostly counts are used.
+            Mode::Chip if random.once_in(5) => random.word(),
+            Mode::Chip => u64::MAX,
+        };
         let mut scene = Scene { device, base, window, channels, counted, nodes: Vec::new() };
         scene.put_nodes(random);
         scene.put_descriptors(random);
         scene.put_dma(random);
         scene.put_controllers(random);
+        if mode == Mode::Chip {
+            scene.put_priorities(random);
+        }
         scene
     }
 
@@ -90,6 +107,83 @@ impl Scene {
         scene
     }
 
+    /// A scene in the chip's mode with many channels that have work at once,
+    /// half of the time linked to each other. Their moves stay in small parts of
+    /// the window, so that a run can go on for all of its turns.
+    pub fn crowd(random: &mut Random) -> Scene {
+        let base = 0x8000_0000;
+        let mut window = vec![0; 512];
+        random.fill(&mut window);
+        let device = Device::with(Settings { mode: Mode::Chip, ignore_masks: false });
+        let count = random.pick(&[2, 3, 3, 5, 12, 40]);
+        let channels: Vec<Channel> = (0..count).map(|_| channel(random)).collect();
+        let nodes = vec![base + 256, base + 300];
+        let linked = random.once_in(2);
+        let mut scene = Scene { device, base, window, channels, counted: u64::MAX, nodes };
+        for node in scene.nodes.clone() {
+            let at = (node - base) as usize;
+            let tcd = scene.tame(random, linked);
+            scene.window[at..at + TCD].copy_from_slice(&tcd.to_bytes());
+        }
+        for channel in scene.channels.clone() {
+            let tcd = scene.tame(random, linked);
+            scene.device.set_descriptor(channel, &tcd);
+            scene.put(Field::Pending(channel), random.pick(&[0, 0, 1, 2, 3, 9]));
+            if random.once_in(12) {
+                scene.put(Field::Busy(channel), random.pick(&TIMES));
+            }
+        }
+        for field in [Field::Erq, Field::Kick, Field::Deferred] {
+            let mask = scene.mask(random);
+            scene.put(field, mask);
+        }
+        if random.once_in(6) {
+            scene.put(Field::Standing, random.pick(&scene.channels.clone()).bit());
+        }
+        scene.put_priorities(random);
+        scene
+    }
+
+    /// A descriptor whose addresses stay in 32 bytes each.
+    fn tame(&self, random: &mut Random, linked: bool) -> Tcd {
+        let scode = random.pick(&[0, 1, 2]);
+        let dcode = if random.once_in(5) { random.pick(&[0, 1, 2]) } else { scode };
+        let flag = |random: &mut Random, n, bit| if random.once_in(n) { bit } else { 0 };
+        let esg = random.once_in(8);
+        let control = flag(random, 2, csr::START)
+            | flag(random, 4, csr::INTMAJOR)
+            | flag(random, 4, csr::INTHALF)
+            | flag(random, 8, csr::DREQ)
+            | flag(random, 2, if linked { csr::MAJORELINK } else { 0 })
+            | if esg { csr::ESG } else { 0 };
+        let loops = random.pick(&[0, 1, 1, 1, 2, 3]);
+        let link = 0x8000 | u16::from(random.pick(&self.channels).number()) << 9;
+        let count = loops | flag(random, 2, if linked { link } else { 0 });
+        Tcd {
+            saddr: self.base + random.below(32) as u32,
+            attr: 5 << 11 | scode << 8 | 5 << 3 | dcode,
+            soff: step(random, scode),
+            nbytes: random.pick(&[1, 1, 2, 3, 4]),
+            slast: 0,
+            daddr: self.base + 64 + random.below(32) as u32,
+            citer: count,
+            doff: step(random, dcode),
+            dlast: if esg { random.pick(&self.nodes) } else { 0 },
+            biter: count,
+            csr: control | u16::from(random.pick(&self.channels).number()) << 8,
+        }
+    }
+
+    /// A call that gives a channel work: requests, or a start of one or of all.
+    pub fn work(&self, random: &mut Random) -> Call {
+        let channel = u32::from(random.pick(&self.channels).number());
+        match random.below(8) {
+            0 => Call::Write { address: 0xFC04_401E, size: 1, value: 0x40 },
+            1..=3 => Call::Write { address: 0xFC04_401E, size: 1, value: channel },
+            _ => Call::Pending { channel, count: random.pick(&[1, 2, 5]) },
+        }
+    }
+
     /// A random run or service.
     pub fn run_or_service(&self, random: &mut Random) -> Call {
         let time = Time { now: random.pick(&TIMES), pace: random.pick(&PACES) };
@@ -113,6 +207,13 @@ impl Scene {
         };
         random.fill(&mut world.staging);
         random.fill(&mut world.journal);
+        if self.device.mode() == Mode::Chip && random.once_in(2) {
+            // More than the six bits that count.
+            for channel in self.channels.iter().chain([&channel(random)]) {
+                let byte = place(Field::Priority(*channel)) + 7;
+                world.image[byte] |= random.pick(&[0, 0x40, 0x80, 0xC0]);
+            }
+        }
         world
     }
 
@@ -309,6 +410,14 @@ impl Scene {
         self.put(Field::Standing, standing);
     }
 
+    /// Priorities among which some are equal.
+    fn put_priorities(&mut self, random: &mut Random) {
+        for channel in self.channels.clone() {
+            let own = u64::from(channel.number());
+            self.put(Field::Priority(channel), random.pick(&[own, 0, 1, 5, 5, 32, 62, 63]));
+        }
+    }
+
     fn put_controllers(&mut self, random: &mut Random) {
         for controller in Controller::ALL {
             let masks = [u64::MAX, 0, random.word()];
@@ -329,13 +438,13 @@ impl Scene {
     fn descriptor_write(&self, random: &mut Random) -> Call {
         let channel = self.some_channel(random);
         let field = random.pick(&TcdField::ALL);
-        let register = kounpheray::Register::from((channel, field));
+        let register = Register::from((channel, field));
         let value = field.of(&self.tcd(random));
         Call::Write { address: register.address(), size: register.size(), value }
     }
 
     fn register_write(&self, random: &mut Random) -> Call {
-        let (address, size) = place(random);
+        let (address, size) = self.place(random);
         let value = match random.below(4) {
             0 => random.word() as u32,
             1 => random.pick(&[0, 0x40, 0x7F, 0x80, 0xFF, 0x4040_4040]),
@@ -348,8 +457,18 @@ impl Scene {
     }
 
     fn register_read(&self, random: &mut Random) -> Call {
-        let (address, size) = place(random);
+        let (address, size) = self.place(random);
         Call::Read { address, size }
+    }
+
+    /// An address and a size among the registers; in the chip's mode often of a
+    /// priority.
+    fn place(&self, random: &mut Random) -> (u32, u32) {
+        if self.device.mode() == Mode::Chip && random.once_in(4) {
+            let register = Register::Dma(DmaRegister::Priority(self.some_channel(random)));
+            return (register.address(), random.pick(&[1, 1, 1, 1, 2, 4]));
+        }
+        any_place(random)
     }
 }
 
@@ -433,7 +552,7 @@ fn last(random: &mut Random) -> u32 {
 }
 
 /// An address and a size among the registers, rarely outside.
-fn place(random: &mut Random) -> (u32, u32) {
+fn any_place(random: &mut Random) -> (u32, u32) {
     let block = random.pick(&[0xFC04_4000, 0xFC04_4000, 0xFC04_8000, 0xFC04_C000, 0xFC05_0000]);
     let table = block == 0xFC04_4000;
     let (offset, size) = match random.below(20) {

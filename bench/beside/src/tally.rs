@@ -11,12 +11,12 @@ pub struct Tally {
 }
 
 impl Tally {
-    /// A call whose answer and whose effect were compared with the Rust.
+    /// A call whose answer and whose effect were compared.
     pub fn compared(&mut self, what: impl Into<String>) {
         *self.compared.entry(what.into()).or_default() += 1;
     }
 
-    /// A call of which the Rust has nothing to say.
+    /// A call of which the other side has nothing to say.
     pub fn apart(&mut self, why: impl Into<String>) {
         *self.apart.entry(why.into()).or_default() += 1;
     }
@@ -41,7 +41,7 @@ impl Tally {
 
 impl fmt::Display for Tally {
     fn fmt(&self, to: &mut fmt::Formatter<'_>) -> fmt::Result {
-        writeln!(to, "compared with the Rust: {} calls", self.total())?;
+        writeln!(to, "compared: {} calls", self.total())?;
         for (what, count) in &self.compared {
             writeln!(to, "  {count:>9}  {what}")?;
         }

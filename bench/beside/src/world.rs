@@ -2,8 +2,19 @@
 //! alone.
 
 use crate::call::Call;
+use crate::recorded::place;
 use kounpheray::entries::{self, Answer, Lent, LentJournal};
-use kounpheray::Device;
+use kounpheray::{Channel, Device, Field};
+
+/// What an image stands for: of a priority the low six bits. Demand 3 compares
+/// these, and an accepted call lays them down.
+pub fn seen(image: &[u8]) -> Vec<u8> {
+    let mut seen = image.to_vec();
+    for channel in Channel::all() {
+        seen[place(Field::Priority(channel)) + 7] %= 64;
+    }
+    seen
+}
 
 /// Makes a call through one of the two families of entries, which have the
 /// same names, and keeps the used length it answers.
@@ -76,6 +87,26 @@ impl World {
     /// Makes a call and keeps the used length it answers.
     pub fn call(&mut self, call: Call) -> Answer {
         made!(self, images, &mut self.image, call)
+    }
+
+    /// Makes a call in the model and keeps the used length it answers.
+    pub fn modelled(&mut self, call: Call) -> Answer {
+        let World { image, base, window, staging, journal, used } = self;
+        let mut lent = model::Lent { image, base: *base, window, staging, journal, used: *used };
+        let answer = Answer(match call {
+            Call::Read { address, size } => return Answer(lent.read(address, size)),
+            Call::Write { address, size, value } => lent.write(address, size, value),
+            Call::Inputs { standing, lines } => lent.inputs(standing, lines),
+            Call::Pending { channel, count } => lent.pending(channel, count),
+            Call::Run(time) => lent.run(time.now, time.pace),
+            Call::Service(time) => lent.service(time.now, time.pace),
+            Call::Acknowledge { ipl } => lent.acknowledge(ipl),
+            Call::TakeBack => lent.take_back(),
+        });
+        if answer.status() == 0 {
+            *used = u64::from(answer.low());
+        }
+        answer
     }
 
     /// The refusal that a call is met with before anything is done, register

@@ -1,13 +1,13 @@
-//! Demands 1 and 3, over random rows of calls with take-backs: what a refusal
-//! leaves, and that everything after a row is what the standing calls alone
-//! would have made. The Rust is not needed here.
+//! Demands 1 and 3, over random rows of calls with take-backs, in both modes:
+//! what a refusal leaves, and that everything after a row is what the standing
+//! calls alone would have made. The Rust is not needed here.
 
 use beside::call::Call;
-use beside::damage::taken_back;
+use beside::lab::fresh;
 use beside::random::{seeds, Random};
 use beside::scene::Scene;
-use beside::world::World;
-use kounpheray::{Field, RECORD};
+use beside::world::{seen, World};
+use kounpheray::{Field, Mode, RECORD};
 use std::collections::BTreeMap;
 
 /// Makes the standing calls alone, from the same start.
@@ -21,7 +21,8 @@ fn made_alone(start: &World, standing: &[Call]) -> World {
 
 fn assert_stands(world: &World, start: &World, standing: &[Call]) {
     let alone = made_alone(start, standing);
-    assert!(world.image == alone.image, "the device is not that of {standing:x?}");
+    let alike = seen(&world.image) == seen(&alone.image);
+    assert!(alike, "the device is not that of {standing:x?}");
     assert!(world.window == alone.window, "the window is not that of {standing:x?}");
     assert_eq!(world.used, alone.used, "{standing:x?}");
     let used = world.used as usize;
@@ -29,8 +30,8 @@ fn assert_stands(world: &World, start: &World, standing: &[Call]) {
 }
 
 /// A row with many take-backs: after it, what stands is what is there.
-fn row(random: &mut Random, refusals: &mut BTreeMap<u8, u64>) -> u64 {
-    let scene = Scene::new(random);
+fn row(random: &mut Random, mode: Mode, refusals: &mut BTreeMap<u8, u64>) -> u64 {
+    let scene = Scene::of(random, mode);
     let staging = random.pick(&[0, 1, 31, 64, 4096]);
     let journal = random.pick(&[0, 15, 16, 47, 160, 1000, 4096, 20_000]);
     let start = scene.world(random, staging, journal);
@@ -71,23 +72,26 @@ fn row(random: &mut Random, refusals: &mut BTreeMap<u8, u64>) -> u64 {
         calls += 1;
     }
     assert_eq!(world.checked(Call::TakeBack).map(|answer| answer.status()), Ok(12));
-    assert!(world.image == start.image && world.window == start.window, "back at the start");
+    let back = seen(&world.image) == seen(&start.image) && world.window == start.window;
+    assert!(back, "back at the start");
     calls
 }
 
 #[test]
 fn rows_with_take_backs() {
-    let mut refusals = BTreeMap::new();
-    let mut calls = 0;
-    for seed in seeds() {
-        let mut random = Random::new(1000 + seed);
-        for _ in 0..700 {
-            calls += row(&mut random, &mut refusals);
+    for mode in Mode::ALL {
+        let mut refusals = BTreeMap::new();
+        let mut calls = 0;
+        for seed in seeds() {
+            let mut random = Random::new(1000 + seed);
+            for _ in 0..700 {
+                calls += row(&mut random, mode, &mut refusals);
+            }
         }
-    }
-    println!("rows with take-backs: {calls} calls; refusals by number: {refusals:?}");
-    for number in [1, 2, 3, 4, 7, 8, 9, 10, 11, 12, 14] {
-        assert!(refusals.contains_key(&number), "refusal {number} never came");
+        println!("rows with take-backs, {mode:?}: {calls} calls; refusals: {refusals:?}");
+        for number in [1, 2, 3, 4, 7, 8, 9, 10, 11, 12, 14] {
+            assert!(refusals.contains_key(&number), "refusal {number} never came");
+        }
     }
 }
 
@@ -97,8 +101,8 @@ fn rows_with_take_backs() {
 fn every_shorter_journal() {
     let mut random = Random::new(77);
     let (mut runs, mut refused) = (0, 0);
-    while runs < 60 {
-        let scene = Scene::new(&mut random);
+    while runs < 120 {
+        let scene = Scene::of(&mut random, Mode::ALL[runs % 2]);
         let mut start = scene.world(&mut random, 4096, 1 << 14);
         if random.once_in(2) {
             start.call(scene.call(&mut random));
@@ -131,7 +135,7 @@ fn every_shorter_journal() {
 /// reads more than there is.
 #[test]
 fn every_shorter_staging() {
-    use beside::lab::{memory, one_request, AT_ONCE, BASE};
+    use beside::lab::{memory, one_request_in, AT_ONCE, BASE};
     use kounpheray::{Channel, Size, Tcd};
     let sizes = [Size::One, Size::Two, Size::Four, Size::Sixteen, Size::ThirtyTwo];
     let mut refused = 0;
@@ -150,9 +154,9 @@ fn every_shorter_staging() {
                     ..Tcd::default()
                 };
                 let read = nbytes.div_ceil(from.bytes()) * from.bytes();
-                for length in 0..read + 2 {
+                for (length, mode) in (0..read + 2).flat_map(|n| Mode::ALL.map(|mode| (n, mode))) {
                     let mut world = World {
-                        image: one_request(Channel::new(8), &tcd).image(),
+                        image: one_request_in(mode, Channel::new(8), &tcd).image(),
                         base: BASE,
                         window: memory(256),
                         staging: vec![0xEE; length as usize],
@@ -174,19 +178,23 @@ fn every_shorter_staging() {
 /// Of 9, 10 and 11 the first step that meets one decides.
 #[test]
 fn the_first_step_decides() {
-    use beside::lab::{memory, one_request, AT_ONCE, BASE};
+    use beside::lab::{memory, one_request_in, AT_ONCE, BASE};
     use kounpheray::{Channel, Tcd};
     let status = |attr: u16, saddr: u32, daddr: u32, staging: usize, journal: usize| {
         let tcd = Tcd { saddr, attr, nbytes: 4, daddr, citer: 1, biter: 1, ..Tcd::default() };
-        let mut world = World {
-            image: one_request(Channel::new(8), &tcd).image(),
-            base: BASE,
-            window: memory(32),
-            staging: vec![1; staging],
-            journal: vec![1; journal],
-            used: 0,
-        };
-        world.checked(Call::Run(AT_ONCE)).unwrap_or_else(|told| panic!("{told}")).status()
+        let [old, chip] = Mode::ALL.map(|mode| {
+            let mut world = World {
+                image: one_request_in(mode, Channel::new(8), &tcd).image(),
+                base: BASE,
+                window: memory(32),
+                staging: vec![1; staging],
+                journal: vec![1; journal],
+                used: 0,
+            };
+            world.checked(Call::Run(AT_ONCE)).unwrap_or_else(|told| panic!("{told}")).status()
+        });
+        assert_eq!(old, chip, "one pass is one pass in both modes");
+        chip
     };
     let (word, half) = (BASE + 29, BASE + 31);
     assert_eq!(status(0x0202, BASE, word, 0, 0), 9, "9 before 11 at one store");
@@ -265,14 +273,14 @@ fn with_room(device: &kounpheray::Device, room: usize, used: u64) -> World {
 /// 0 is accepted and writes its group.
 #[test]
 fn sums_of_pending_counts() {
-    use kounpheray::{Channel, Device};
+    use kounpheray::Channel;
     const MOST: u32 = u32::MAX;
     let counts = [0, 1, 2, 9, 1 << 31, (1 << 31) + 1, MOST - 2, MOST - 1, MOST];
     let mut random = Random::new(14);
     let mut seen = BTreeMap::new();
     for channel in Channel::all() {
         for stands in counts {
-            let mut device = Device::fresh();
+            let mut device = fresh(random.pick(&Mode::ALL));
             for other in Channel::all() {
                 let count = if other == channel { stands } else { random.pick(&counts) };
                 device.set(Field::Pending(other), u64::from(count)).expect("the count fits");
@@ -315,8 +323,8 @@ fn rows_of_pending_counts() {
     let mut seen = BTreeMap::new();
     for seed in seeds() {
         let mut random = Random::new(4000 + seed);
-        for _ in 0..200 {
-            let mut device = Device::fresh();
+        for n in 0..200 {
+            let mut device = fresh(Mode::ALL[n % 2]);
             let room = random.pick(&[31, 64, 320, 4096]);
             for channel in [0, 63] {
                 let stands = random.pick(&[0, 1, 1 << 31, MOST - 3, MOST - 1, MOST]);
@@ -386,9 +394,9 @@ fn longest_window_and_journal() {
 }
 
 /// A world with some acts standing, the last of them with several records.
-fn some_acts(random: &mut Random) -> World {
+fn some_acts(random: &mut Random, mode: Mode) -> World {
     loop {
-        let scene = Scene::new(random);
+        let scene = Scene::of(random, mode);
         let mut world = scene.world(random, 4096, 1 << 13);
         for _ in 0..4 {
             world.call(scene.call(random));
@@ -400,21 +408,17 @@ fn some_acts(random: &mut Random) -> World {
     }
 }
 
-/// Takes back, and holds the result to the plain model of document 01.
+/// Takes back, and holds the result to the model.
 fn take_back_as_said(mut world: World, kind: &str, counts: &mut BTreeMap<String, (u64, u64)>) {
-    let expected = taken_back(&world);
+    let mut expected = world.clone();
+    let told = expected.modelled(Call::TakeBack);
     let answer = world.checked(Call::TakeBack).unwrap_or_else(|told| panic!("{kind}: {told}"));
+    assert_eq!(answer, told, "{kind}");
+    assert!(world == expected, "{kind}: undone to something else");
     let count = counts.entry(kind.to_string()).or_default();
-    match expected {
-        None => {
-            assert_eq!(answer.status(), 13, "{kind}");
-            count.0 += 1;
-        }
-        Some(expected) => {
-            assert_eq!(answer.status(), 0, "{kind}");
-            assert!(world == expected, "{kind}: undone to something else");
-            count.1 += 1;
-        }
+    match answer.status() {
+        0 => count.1 += 1,
+        _ => count.0 += 1,
     }
 }
 
@@ -482,7 +486,7 @@ fn damages(random: &mut Random, world: &World) -> Vec<(&'static str, World)> {
                     w.journal[at + 4..at + 8].copy_from_slice(&number.to_be_bytes());
                 });
             }
-            for number in [0u16, 8, 19, 27, 192, 255, 256, 447, 9, 767] {
+            for number in [0u16, 8, 19, 27, 192, 255, 256, 447, 9, 767, 768, 831] {
                 let bits = Field::from_number(number).expect("a field").bits();
                 for value in [1u64.checked_shl(bits).unwrap_or(1), u64::MAX >> (64 - bits)] {
                     damage("record: value at a field's width", &|w| {
@@ -502,8 +506,8 @@ fn damaged_journals() {
     let mut counts = BTreeMap::new();
     for seed in seeds() {
         let mut random = Random::new(2000 + seed);
-        for _ in 0..60 {
-            let world = some_acts(&mut random);
+        for n in 0..80 {
+            let world = some_acts(&mut random, Mode::ALL[n % 2]);
             for (kind, damaged) in damages(&mut random, &world) {
                 take_back_as_said(damaged, kind, &mut counts);
             }
@@ -523,8 +527,8 @@ fn journals_of_noise() {
     let mut counts = BTreeMap::new();
     for seed in seeds() {
         let mut random = Random::new(3000 + seed);
-        for _ in 0..400 {
-            let mut world = some_acts(&mut random);
+        for n in 0..400 {
+            let mut world = some_acts(&mut random, Mode::ALL[n % 2]);
             let used = world.used;
             for _ in 0..=random.below(2) {
                 let at = random.below(used) as usize;
@@ -541,8 +545,26 @@ fn journals_of_noise() {
 /// An image that is no device: 255 before every other check, nothing changed.
 #[test]
 fn images_that_are_no_device() {
+    for mode in Mode::ALL {
+        no_device(mode);
+    }
+    let mut short = vec![1; 8719];
+    assert_eq!(images::fresh(&mut short, 0, 0).status(), 255);
+    assert!(short.iter().all(|&byte| byte == 1), "a refused image is unchanged");
+    let mut image = vec![1; 8720];
+    for (ignore_masks, mode) in [(2, 0), (0, 2), (2, 1), (1, 2), (u32::MAX, 0), (0, 1 << 31)] {
+        assert_eq!(images::fresh(&mut image, ignore_masks, mode).status(), 255);
+        assert!(image.iter().all(|&byte| byte == 1), "a refused image is unchanged");
+    }
+    for (ignore_masks, mode) in [(0, 0), (0, 1), (1, 0), (1, 1)] {
+        assert_eq!(images::fresh(&mut image, ignore_masks, mode).status(), 0);
+        assert_eq!(image[2048..2050], [ignore_masks as u8, mode as u8]);
+    }
+}
+
+fn no_device(mode: Mode) {
     let mut random = Random::new(9);
-    let scene = Scene::new(&mut random);
+    let scene = Scene::of(&mut random, mode);
     let sound = scene.world(&mut random, 16, 256);
     let mut bad: Vec<Vec<u8>> = vec![Vec::new(), vec![0; 8719], vec![0; 8721]];
     let mut changed = |at: usize, byte: u8| {
@@ -555,11 +577,18 @@ fn images_that_are_no_device() {
     for at in 2050..2060 {
         changed(at, 1);
     }
-    for number in 0..768u16 {
+    if mode == Mode::Chip {
+        // With these priorities it is none in the old mode.
+        changed(2049, 0);
+    }
+    for number in 0..832u16 {
         let at = 2064 + 8 * usize::from(number);
-        match Field::from_number(number) {
+        match Field::from_number(number).filter(|field| field.is_of(mode)) {
             None => changed(at + 7, 1),
-            Some(field) if field.bits() < 64 => changed(at + 7 - field.bits() as usize / 8, 1),
+            // A priority is taken in the whole of its byte.
+            Some(field) if field.bits() < 64 => {
+                changed(at + 7 - field.bits().div_ceil(8) as usize, 1);
+            }
             Some(_) => {}
         }
     }
@@ -580,7 +609,4 @@ fn images_that_are_no_device() {
             assert_eq!(answer.status(), 255, "{call:?}");
         }
     }
-    let mut short = vec![1; 8719];
-    assert_eq!(images::fresh(&mut short, 0, 0).status(), 255);
-    assert!(short.iter().all(|&byte| byte == 1), "a refused image is unchanged");
 }

@@ -1,10 +1,10 @@
 //! Every offset and size of the four blocks, every command byte, every source.
 
 use beside::call::Call;
-use beside::lab::{put, settled, Lab};
+use beside::lab::{fresh, put, settled, Lab};
 use beside::oracle_at_hand;
 use beside::random::Random;
-use kounpheray::{Channel, Controller, Device, Field, Source};
+use kounpheray::{Channel, Controller, Device, Field, Mode, Source};
 
 const BLOCKS: [u32; 4] = [0xFC04_4000, 0xFC04_8000, 0xFC04_C000, 0xFC05_0000];
 
@@ -210,17 +210,21 @@ fn every_line_bit_is_an_input() {
 }
 
 #[test]
-fn a_fresh_device_is_as_document_01_says() {
-    let device = Device::fresh();
-    for number in 0..768 {
-        let Some(field) = Field::from_number(number) else { continue };
-        let value = match field {
-            Field::Imr(_) | Field::Deadline => u64::MAX,
-            _ => 0,
-        };
-        assert_eq!(device.get(field), value, "{field}");
+fn a_fresh_device_is_as_the_documents_say() {
+    for mode in Mode::ALL {
+        let device = fresh(mode);
+        for field in (0..832).filter_map(Field::from_number) {
+            let value = match field {
+                Field::Imr(_) | Field::Deadline => u64::MAX,
+                Field::Priority(channel) if mode == Mode::Chip => channel.number().into(),
+                _ => 0,
+            };
+            assert_eq!(device.get(field), value, "{field}");
+        }
+        assert!(device.table().iter().all(|&byte| byte == 0));
+        let settings = &device.image()[2048..2064];
+        assert_eq!(settings[..2], [0, mode.number()]);
+        assert_eq!(settings[2..], [0; 14]);
     }
-    assert!(device.table().iter().all(|&byte| byte == 0));
-    assert_eq!(device.image()[2048..2064], [0; 16]);
-    assert_eq!(Device::ignoring_masks().image()[2048], 1);
+    assert_eq!(Device::ignoring_masks().image()[2048..2050], [1, 0]);
 }

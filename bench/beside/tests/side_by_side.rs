@@ -23,7 +23,7 @@ fn rows_of(seed: u64) -> Tally {
         let staging = random.pick(&[0, 3, 64, 4096, 4096, 4096]);
         let world = scene.world(&mut random, staging, JOURNAL);
         let calls: Vec<Call> = (0..CALLS).map(|_| scene.call(&mut random)).collect();
-        row::beside(&format!("seed {seed}, row {n}"), &world, &calls, &mut tally);
+        row::beside(row::the_rust, &format!("seed {seed}, row {n}"), &world, &calls, &mut tally);
     }
     tally
 }
@@ -40,7 +40,7 @@ fn random_rows() {
     for seed in running {
         tally.add(seed.join().expect("the rows of every seed agree"));
     }
-    println!("random rows from {tried} seeds, {tally}");
+    println!("random rows beside the Rust from {tried} seeds, {tally}");
     if tried >= 6 {
         assert!(tally.total() >= WANTED, "only {} calls could be compared", tally.total());
     }

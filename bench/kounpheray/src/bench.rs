@@ -257,11 +257,11 @@ impl Bench {
         self.device.descriptor(channel)
     }
 
-    /// Puts the standing requests and the lines; every requesting channel
-    /// with its ERQ bit set then has work waiting, its KICK bit. What is given here takes
-    /// the place of all that was given before: lines that are to stay up are
-    /// given again. ([`Device::inputs`] says which they are.) Only the lines
-    /// that the DMA drives itself stay as they are, whatever is given.
+    /// Puts the standing requests and the lines, and sets the KICK bit of every
+    /// requesting channel with its ERQ bit set. What is given here takes the
+    /// place of all that was given before: lines that are to stay up are given
+    /// again. ([`Device::inputs`] says which they are.) Only the lines that the
+    /// DMA drives itself stay as they are, whatever is given.
     pub fn inputs(&mut self, standing: u64, lines: [u64; 3]) -> Result<(), Refusal> {
         let journal = LentJournal { bytes: &mut self.journal, used: self.used as u64 };
         let answer = ffi::inputs(&mut self.device, standing, lines, journal);

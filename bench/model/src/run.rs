@@ -65,8 +65,9 @@ fn run_as_the_chip(act: &mut Act, now: u64, pace: u64) -> Result<(), Refused> {
 /// higher number among equals.
 fn first(act: &Act, now: u64, passed_over: u64) -> Option<usize> {
     let device = &act.device;
+    let asking = device.fields[ERQ] & device.requesting();
     (0..64)
-        .filter(|&channel| device.started(channel) || device.asks(channel))
+        .filter(|&channel| device.started(channel) || bit(asking, channel))
         .filter(|channel| device.fields[BUSY + channel] <= now)
         .filter(|&channel| !bit(passed_over, channel))
         .max_by_key(|channel| (device.fields[PRIORITY + channel], *channel))

@@ -1,4 +1,4 @@
-//! Writes the list of document 01's own cases: to the file named, or to
+//! Writes the list of the documents' own cases: to the file named, or to
 //! standard output.
 //!
 //! cargo run --release -p beside --bin document -- beside/lists/document.txt

@@ -7,7 +7,7 @@ use beside::call::Call;
 use beside::random::Random;
 use beside::recorded::{call_rows, changes, lines, written, Answered, Begin, Row, FORMAT, JOURNAL};
 use beside::scene::Scene;
-use kounpheray::Device;
+use kounpheray::{Device, Mode};
 use oracle::{Oracle, Ran, IMAGE};
 use std::process::exit;
 
@@ -47,6 +47,7 @@ fn main() {
 /// A case, unless it leaves the claimed domain or says too little.
 fn case(random: &mut Random, number: usize) -> Option<Vec<Row>> {
     let begin = Begin {
+        mode: Mode::Old,
         ignore_masks: random.once_in(8),
         number: number as u16,
         base: random.pick(&[0x8000_0000, 0x4000_0010, 0, 0xFFFF_FF80]),
