@@ -1,14 +1,20 @@
 //! A short telephone call on the bench: blocks of 160 mu-law samples arrive
 //! in a ring, a detector hears something odd, and the bench is asked where
-//! the odd sample came from.
+//! the odd sample came from. Then the same call as the chip does it.
 
+mod chip;
 mod line;
 mod setting;
 
-use kounpheray::{Act, Bench, Field, Origin, Refusal};
-use setting::{BLOCK, FAULTY, FAX, LATE, RING, RING_BLOCKS, VOICE};
+use kounpheray::{Act, Bench, Field, Mode, Origin, Refusal};
+use setting::{BLOCK, BLOCKS, FAULTY, FAX, LATE, RING, RING_BLOCKS, VOICE};
 
 fn main() -> Result<(), Refusal> {
+    stepped_back()?;
+    chip::play()
+}
+
+fn stepped_back() -> Result<(), Refusal> {
     println!("KOUNPHERAY: a call that can be stepped back\n");
     println!("A line card delivers 20 ms of sound at a time: {BLOCK} bytes, one mu-law sample");
     println!(
@@ -18,12 +24,12 @@ fn main() -> Result<(), Refusal> {
     println!("engine is an act, and it keeps a journal of them, so that whatever it did can");
     println!("be asked about and undone.\n");
 
-    let mut bench = setting::bench()?;
+    let mut bench = setting::bench(Mode::Old)?;
     let set_up = bench.acts().len();
     println!("1. Setting up took {set_up} register writes, one act each. Now the blocks arrive");
     println!("   (loudness of each ten samples between the bars; # is too loud for speech):\n");
     let mut waiting = Vec::new();
-    for block in 0..7 {
+    for block in 0..BLOCKS {
         arrive(&mut bench, block)?;
         waiting.push(block);
         let frames = bench.device().get(Field::Pending(VOICE));

@@ -1,8 +1,8 @@
 //! The demo's device: two channels, a ring, a level for their interrupts.
 
 use kounpheray::{
-    csr, Bench, Channel, Controller, ControllerRegister, Count, DmaRegister, Refusal, Select, Size,
-    Source, Tcd, Time,
+    csr, Bench, Channel, Controller, ControllerRegister, Count, Device, DmaRegister, Mode, Refusal,
+    Select, Settings, Size, Source, Tcd, Time,
 };
 
 /// Moves the voice's blocks into the ring.
@@ -16,6 +16,9 @@ pub const BLOCK: usize = 160;
 
 /// Blocks in the ring.
 pub const RING_BLOCKS: usize = 4;
+
+/// Blocks of the call.
+pub const BLOCKS: usize = 7;
 
 /// The block that waits for the next one.
 pub const LATE: usize = 2;
@@ -35,8 +38,9 @@ pub const HEADER: u32 = BASE + 0x700;
 pub const RING: u32 = BASE + 0x800;
 
 /// A fresh device with the registers written as a driver would.
-pub fn bench() -> Result<Bench, Refusal> {
-    let mut bench = Bench::new(BASE, vec![0xFF; 0x1000]);
+pub fn bench(mode: Mode) -> Result<Bench, Refusal> {
+    let device = Device::with(Settings { mode, ..Settings::default() });
+    let mut bench = Bench::new(BASE, vec![0xFF; 0x1000]).with_device(device);
     let ring = (RING_BLOCKS * BLOCK) as u32;
     let loops = Count::Plain(RING_BLOCKS as u16).raw();
     let voice = Tcd {
