@@ -109,7 +109,8 @@ impl Scene {
 
     /// A scene in the chip's mode with many channels that have work at once,
     /// half of the time linked to each other. Their moves stay in small parts of
-    /// the window, so that a run can go on for all of its turns.
+    /// the window, so that a run can go on for all of its turns; now and then one
+    /// of them is as in any scene.
     pub fn crowd(random: &mut Random) -> Scene {
         let base = 0x8000_0000;
         let mut window = vec![0; 512];
@@ -132,6 +133,12 @@ impl Scene {
             if random.once_in(12) {
                 scene.put(Field::Busy(channel), random.pick(&TIMES));
             }
+        }
+        if random.once_in(4) {
+            let (channel, tcd) = (random.pick(&scene.channels), scene.tcd(random));
+            scene.device.set_descriptor(channel, &tcd);
+            scene.put(Field::Cr, 0x80);
+            scene.put_controllers(random);
         }
         for field in [Field::Erq, Field::Kick, Field::Deferred] {
             let mask = scene.mask(random);

@@ -152,7 +152,8 @@ pub struct Stored {
 }
 
 impl Journal {
-    /// Reads the used part of a journal.
+    /// Reads the used part of a journal. It tells no mode: a record of a priority
+    /// is read, though in the old mode the engine would call it damaged.
     ///
     /// ```
     /// use kounpheray::Journal;

@@ -3,8 +3,8 @@
 
 use kounpheray::entries::{self, Answer, Lent, LentJournal};
 use kounpheray::{
-    csr, Channel, Controller, ControllerRegister, Device, DmaRegister, Field, Register, Size,
-    Source, Tcd, TcdField, Time,
+    csr, Channel, Controller, ControllerRegister, Device, DmaRegister, Field, Mode, Register,
+    Settings, Size, Source, Tcd, TcdField, Time,
 };
 use oracle::Oracle;
 use std::hint::black_box;
@@ -25,9 +25,16 @@ pub enum Call {
     Pending,
     Acknowledge,
     /// A run with nothing to do.
-    Idle,
+    Idle(Mode),
     /// A run that moves a block in these sizes.
     Move(Size, Size),
+    /// A run in which so many channels have so many requests each, of four
+    /// bytes: so many minor loops in either mode.
+    Loops {
+        mode: Mode,
+        ready: usize,
+        each: u64,
+    },
     /// A register write, and its take-back.
     TakenBack,
     /// The device saved as an image.
@@ -52,7 +59,8 @@ pub fn all() -> Vec<(String, Call)> {
         ("inputs", Call::Inputs),
         ("pending", Call::Pending),
         ("acknowledge", Call::Acknowledge),
-        ("run, idle", Call::Idle),
+        ("run, idle", Call::Idle(Mode::Old)),
+        ("chip, idle", Call::Idle(Mode::Chip)),
     ]
     .into_iter()
     .map(|(name, call)| (name.to_string(), call))
@@ -75,7 +83,31 @@ pub fn all() -> Vec<(String, Call)> {
     {
         calls.push((name.to_string(), call));
     }
+    for (name, mode) in [("old", Mode::Old), ("chip", Mode::Chip)] {
+        for (ready, each) in [(1, 64), (1, 128), (8, 8), (8, 16), (63, 1), (63, 2)] {
+            let call = Call::Loops { mode, ready, each };
+            calls.push((format!("{name}, {ready} x {each}"), call));
+        }
+    }
     calls
+}
+
+/// So many channels that have work, without the one that has a pace of its own.
+fn ready_channels(ready: usize) -> impl Iterator<Item = Channel> {
+    Channel::all().filter(|channel| *channel != Channel::PACED).take(ready)
+}
+
+/// A minor loop of four bytes, from and to places that stay.
+fn four_bytes() -> Tcd {
+    Tcd {
+        soff: 0,
+        nbytes: 4,
+        citer: 1000,
+        doff: 0,
+        biter: 1000,
+        csr: 0,
+        ..descriptor(Size::Four, Size::Four)
+    }
 }
 
 /// A window in which no two blocks are alike.
@@ -101,7 +133,11 @@ fn descriptor(from: Size, to: Size) -> Tcd {
 
 /// A device on which the call has something to do.
 fn device(call: Call) -> Device {
-    let mut device = Device::fresh();
+    let mode = match call {
+        Call::Idle(mode) | Call::Loops { mode, .. } => mode,
+        _ => Mode::Old,
+    };
+    let mut device = Device::with(Settings { mode, ..Settings::default() });
     let mut put = |field, value| device.set(field, value).expect("the value fits");
     match call {
         Call::Acknowledge => {
@@ -179,8 +215,9 @@ impl Engine {
                     assert!(answer.taken().is_some(), "nothing was there to take");
                 }
             }
-            Call::Idle => (0..times).for_each(|_| self.run()),
+            Call::Idle(_) => (0..times).for_each(|_| self.run()),
             Call::Move(from, to) => self.moves(times, &descriptor(from, to)),
+            Call::Loops { ready, each, .. } => self.loops(times, ready, each),
             Call::TakenBack => {
                 let register = Register::Dma(DmaRegister::ErqLow);
                 for _ in 0..times {
@@ -225,6 +262,28 @@ impl Engine {
         assert!(self.staging.iter().all(|&byte| byte == 0), "staging was not cleared");
         self.window = before;
     }
+
+    /// Before each run the channels are given their work anew. That costs the
+    /// same for twice as many requests of each, so that it cancels out where
+    /// one count is taken from the other.
+    fn loops(&mut self, times: u64, ready: usize, each: u64) {
+        let tcd = four_bytes();
+        let all = ready_channels(ready).fold(0, |mask, channel| mask | channel.bit());
+        for _ in 0..times {
+            for channel in ready_channels(ready) {
+                self.device.set_descriptor(channel, &tcd);
+                self.device.set(Field::Pending(channel), each).expect("the count fits");
+            }
+            for field in [Field::Erq, Field::Kick] {
+                self.device.set(field, all).expect("it has 64 bits");
+            }
+            self.run();
+        }
+        for channel in ready_channels(ready) {
+            let left = u64::from(self.device.descriptor(channel).citer);
+            assert_eq!(left, 1000 - each, "a loop for each request");
+        }
+    }
 }
 
 fn accepted(answer: Answer) -> Answer {
@@ -241,7 +300,12 @@ pub struct Rust {
 impl Rust {
     /// None where the sources are not there, or where the Rust has no such call.
     pub fn new(call: Call) -> Option<Rust> {
-        if matches!(call, Call::TakenBack | Call::Save | Call::Load) {
+        if let Call::TakenBack
+        | Call::Save
+        | Call::Load
+        | Call::Idle(Mode::Chip)
+        | Call::Loops { .. } = call
+        {
             return None;
         }
         let oracle = Oracle::load(&device(call).image(), BASE, &window()).ok()?;
@@ -279,7 +343,7 @@ impl Rust {
                     assert!(oracle.acknowledge(0).is_some(), "nothing was there to take");
                 }
             }
-            Call::Idle => oracle.run_many(times, 0, 0),
+            Call::Idle(_) => oracle.run_many(times, 0, 0),
             Call::Move(..) => {
                 let before = window();
                 assert_ne!(oracle.window()[512..672], before[..160], "moved before any run");
@@ -287,7 +351,9 @@ impl Rust {
                 assert_eq!(oracle.window()[512..672], before[..160], "a block was not moved");
                 *self = Rust::new(self.call).expect("it was there before");
             }
-            Call::TakenBack | Call::Save | Call::Load => unreachable!("`new` made none"),
+            Call::TakenBack | Call::Save | Call::Load | Call::Loops { .. } => {
+                unreachable!("`new` made none")
+            }
         }
     }
 }

@@ -108,6 +108,7 @@ fn main() {
     }
     println!("processor time of one call in ns, median of {TURNS} turns (and quarters), each side");
     println!("in turn; runs move {} bytes; on {}", call::BLOCK, computer::name());
+    println!("'chip, 8 x 16': a run in that mode; 8 channels have 16 requests each, of 4 bytes");
     if cfg!(debug_assertions) {
         println!("built without optimisation: the figures say nothing (use --release)");
     }
