@@ -4,13 +4,13 @@ use mathlib.Core.Bool.{Bool, true, false}
 use mathlib.Core.List.{List}
 use mathlib.Core.Logic.{_↔_}
 use mathlib.Core.Path.{_≡_, refl, sym, ap, _∙_, subst}
-use Prim.Native.Nat.{ℕ, zero, suc, _+_, _-_, _%_, _^_, _<_, _≤_}
+use Prim.Native.Nat.{ℕ, zero, suc, _+_, _-_, _^_, _<_, _≤_}
 use native.Mathlib.Nat.{mod-eq-of-lt}
 use native.Mathlib.Omega.{arith}
 use borrow.Author.Tests.{lt-ltb, ltb-true, ltb-false}
 use lib.Dec.{leb, ltb}
 use lib.ListN.{length, set}
-use Rattle.rules.specs.Act.{Field, SCALAR, MASKS, FORCED, LINES, CONFIG, BUSY, MAJORS, PENDING, SOURCE, TAKEN, acts, nothing}
+use Rattle.rules.specs.Act.{Field, SCALAR, MASKS, FORCED, LINES, CONFIG, BUSY, MAJORS, PENDING, SOURCE, TAKEN, PRIORITY, acts, nothing}
 use Rattle.rules.specs.Calls.{pending, addPending, levelled, actOf, badJournal, badSum, check, wrong, first, barred, stops, told, numberTold, deviceTold, stagingAfter, worldOf, toldAfter, after}
 use Rattle.rules.specs.Carry.{World, Out, ok, no, After, made, unmade, withDevice, lastLines, written, cleared, leave, perform, go, Lent, lending}
 use Rattle.rules.specs.Fields.{bitsOf, holds}
@@ -22,7 +22,7 @@ use Rattle.rules.proofs.Each.{Rights, at-done, Proper, Properly, each-k
 use Rattle.rules.proofs.Keeps.{AtEnd}
 use Rattle.rules.proofs.Lasts.{act-number}
 use Rattle.rules.proofs.Pieces.{levelled-each}
-use Rattle.rules.proofs.Steps.{putting}
+use Rattle.rules.proofs.Steps.{putting, cutting}
 
 -- ---- lines and level touch no count
 
@@ -37,6 +37,7 @@ OfLines (MAJORS ch) = ⊥
 OfLines (PENDING ch) = ⊥
 OfLines (SOURCE c s) = ⊥
 OfLines (TAKEN i) = ⊥
+OfLines (PRIORITY ch) = ⊥
 
 abbrev levelling : Rights
 levelling = record { may-stage = λ n. ⊥; may-fetch = λ sp a n. ⊥; may-store = λ sp a n. ⊥; may-put = OfLines }
@@ -45,7 +46,7 @@ module _ (counts : List ℕ) where
   abbrev Counts : World → Type 0
   Counts u = u .now .dev .pending ≡ counts
 
-  on-put : (f : Field) (v : ℕ) (u : World) → Proper (u .now .dev) → OfLines f → Counts u → Counts (putting f (v % 2 ^ bitsOf f) u)
+  on-put : (f : Field) (v : ℕ) (u : World) → Proper (u .now .dev) → OfLines f → Counts u → Counts (cutting f v u)
   unfolding withDevice
   on-put (SCALAR i) v u q h p = p
   on-put (MASKS c) v u q h p = absurd h
@@ -57,6 +58,7 @@ module _ (counts : List ℕ) where
   on-put (PENDING ch) v u q h p = absurd h
   on-put (SOURCE c s) v u q h p = absurd h
   on-put (TAKEN i) v u q h p = absurd h
+  on-put (PRIORITY ch) v u q h p = absurd h
 
   levelled-counts : (base : ℕ) (lent : Lent) (u : World) → Properly Counts u → AtEnd (Properly Counts) (go base lent (levelled nothing) u)
   levelled-counts base lent =

@@ -38,7 +38,7 @@ oneByte citer dlast csr = record {
 
 -- channel 0 has this descriptor and is kicked
 unfoldable pub kicked : Tcd → Device
-kicked t = withField KICK 1 (withTable (fresh false) (tcdBytes t ++ replicate 2016 0))
+kicked t = withField KICK 1 (withTable (fresh false false) (tcdBytes t ++ replicate 2016 0))
 
 -- number, KICK and the first 64 bytes of the table of an outcome
 unfoldable pub tableOf : Told → List (List ℕ)

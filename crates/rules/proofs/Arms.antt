@@ -9,7 +9,7 @@ use native.Mathlib.Omega.{arith}
 use borrow.Author.Tests.{leb-true}
 use lib.Dec.{eqb, leb, ltb}
 use lib.ListN.{getD}
-use Rattle.rules.specs.Act.{Act, table, Field, MASKS, FORCED, CONFIG, SOURCE, nothing}
+use Rattle.rules.specs.Act.{Act, table, Field, MASKS, FORCED, CONFIG, SOURCE, PRIORITY, nothing}
 use Rattle.rules.specs.Scalars.{CR, ERQ, EEI, INT, ERR, KICK}
 use Rattle.rules.specs.Calls.{orNothing}
 use Rattle.rules.specs.Registers.{within, inTable, flagOne, flagEach, setRequests, setStarts, clearDones, command, commands, tableWrite, Arm, pick, dmaArms, dmaWrite, levelsWrite, controllerArms, controllerWrite, writeIn}
@@ -112,7 +112,7 @@ module _ {r : Rights} (may : (f : Field) → r .may-put f) (flag : (ch : ℕ) �
       let high : off ≤ 0x17FF = leb-true _ _ (and-right (leb 0x1000 off) _ e) in
       table-write-each (off - 0x1000) size v (omega arith) (s e))
       (λ _. either-each (eqb size 1 && within 0x18 0x1F off) _ _ (λ _. command-each (off - 0x18) v)
-      (λ _. either-each (eqb size 1 && within 0x100 0x13F off) _ _ (λ _. at-done)
+      (λ _. either-each (eqb size 1 && within 0x100 0x13F off) _ _ (λ _. each-put (PRIORITY (off - 0x100)) v (may (PRIORITY (off - 0x100))))
       (λ _. pick-each off size (dmaArms v)
       (each-put CR v (may CR)
       also each-change ERQ _ (may ERQ)

@@ -1,21 +1,22 @@
 -- Take back where the used journal ends with a group of sound records: that group is undone, and only that group goes. Assumes nothing.
-use mathlib.Core.Bool.{true, _&&_, _||_, false≢true}
+use mathlib.Core.Bool.{Bool, true, _&&_, _||_, false≢true}
 use mathlib.Core.List.{List, [], _∷_, _++_, append-assoc}
 use mathlib.Core.Option.{Option, none, some}
 use mathlib.Core.Path.{_≡_, refl, sym, ap, ap₂, _∙_, subst}
 use Prim.Native.Nat.{ℕ, _+_, _-_, _*_, _^_, _≤_, _<_}
-use native.Mathlib.Nat.{lt-of-lt-of-le, lt-of-not-le, zero-lt-suc, pow-le-pow-right}
+use native.Mathlib.Nat.{le-trans, lt-of-lt-of-le, lt-of-not-le, zero-lt-suc, pow-le-pow-right}
 use native.Mathlib.Omega.{arith}
 use borrow.Author.Tests.{eq-eqb, ltb-true, leb-true, le-leb, ne-eqb, eqb-true}
 use lib.Dec.{eqb, leb, lit<, lit≤}
 use lib.ListN.{take, drop, length, replicate, length-append}
 use lib.Pow.{pow-mono}
 use lib.Seq.{take-at, drop-at}
-use Rattle.rules.specs.Act.{Space, window, table, Field, SCALAR, MASKS, FORCED, LINES, CONFIG, BUSY, MAJORS, PENDING, SOURCE, TAKEN}
+use Rattle.rules.specs.Act.{Space, window, table, Field, SCALAR, MASKS, FORCED, LINES, CONFIG, BUSY, MAJORS, PENDING, SOURCE, TAKEN, PRIORITY}
+use Rattle.rules.proofs.FieldLaws.{bits-most}
 use Rattle.rules.proofs.Numbers.{at-none}
 use Rattle.rules.proofs.ScalarLaws.{scalar-bits}
 use Rattle.rules.specs.Bytes.{bytes, part}
-use Rattle.rules.specs.Fields.{bitsOf, fieldAt, fitsSome}
+use Rattle.rules.specs.Fields.{bitsOf, bitsIn, fieldAt, fitsSome}
 use Rattle.rules.specs.Carry.{Machine, World, Rec, stoodAt, stoodIn, made, unmade, there, legal, line, kindOf, lineOf, linesOf, endLine, undo}
 use Rattle.rules.specs.TakeBack.{marked, place, value, soundStore, soundField, soundKind, sound, allSound, ends, recOf, decode, decodeAll, takeGroup, takeLast, takeEnd, takeBack}
 use Rattle.rules.proofs.BoolLaws.{and-left, and-right, and-both, or-either}
@@ -48,21 +49,22 @@ bits-le (BUSY ch) = lit≤ tt
 bits-le (MAJORS ch) = lit≤ tt
 bits-le (PENDING ch) = lit≤ tt
 bits-le (TAKEN i) = lit≤ tt
+bits-le (PRIORITY ch) = lit≤ tt
 bits-le (SOURCE c s) = lit≤ tt
 
-fits-below : (o : Option Field) (v : ℕ) → fitsSome o v ≡ true → v < 256 ^ 8
-fits-below none v e = absurd (false≢true e)
-fits-below (some f) v e = lt-of-lt-of-le (ltb-true v (2 ^ bitsOf f) e) (pow-mono (bits-le f))
+fits-below : (chip : Bool) (o : Option Field) (v : ℕ) → fitsSome chip o v ≡ true → v < 256 ^ 8
+fits-below chip none v e = absurd (false≢true e)
+fits-below chip (some f) v e = lt-of-lt-of-le (ltb-true v (2 ^ bitsIn chip f) e) (pow-mono (le-trans (bits-most chip f) (bits-le f)))
 
-number-below : (n v : ℕ) → fitsSome (fieldAt n) v ≡ true → n < 768
-number-below n v e = lt-of-not-le (λ h. false≢true (subst (λ o. fitsSome o v ≡ true) (at-none n h) e))
+number-below : (chip : Bool) (n v : ℕ) → fitsSome chip (fieldAt chip n) v ≡ true → n < 832
+number-below chip n v e = lt-of-not-le (λ h. false≢true (subst (λ o. fitsSome chip o v ≡ true) (at-none chip n h) e))
 
 -- ---- one record
 
 -- a record that a store or a field can have left: its place is there, and its value fits
 abbrev pub SoundRec : ℕ → Machine → Rec → Type 0
 SoundRec base m (stoodAt sp a w v) = soundStore base m sp w a v ≡ true
-SoundRec base m (stoodIn n v) = fitsSome (fieldAt n) v ≡ true
+SoundRec base m (stoodIn n v) = fitsSome (m .dev .chip) (fieldAt (m .dev .chip) n) v ≡ true
 
 unfoldable pub AllSound : ℕ → Machine → List Rec → Type 0
 AllSound base m [] = Unit {0}
@@ -113,7 +115,7 @@ module _ (base : ℕ) (m : Machine) (good : Good base m) where
       let h = held table w a v e in
       rw (place-line 1 w a v (h .0), value-line 1 w a v (h .1)) e
   sound-line (stoodIn n v) e =
-      rw (place-line 2 8 n v (lt-of-lt-of-le (number-below n v e) (lit≤ {m = 768} {n = 256 ^ 4} tt)), value-line 2 8 n v (fits-below (fieldAt n) v e)) e
+      rw (place-line 2 8 n v (lt-of-lt-of-le (number-below (m .dev .chip) n v e) (lit≤ {m = 832} {n = 256 ^ 4} tt)), value-line 2 8 n v (fits-below (m .dev .chip) (fieldAt (m .dev .chip) n) v e)) e
 
   decode-line : (r : Rec) → SoundRec base m r → decode (lineOf r) ≡ r
   unfolding decode recOf lineOf line kindOf
@@ -124,7 +126,7 @@ module _ (base : ℕ) (m : Machine) (good : Good base m) where
       let h = held table w a v e in
       rw (place-line 1 w a v (h .0), value-line 1 w a v (h .1))
   decode-line (stoodIn n v) e =
-      rw (place-line 2 8 n v (lt-of-lt-of-le (number-below n v e) (lit≤ {m = 768} {n = 256 ^ 4} tt)), value-line 2 8 n v (fits-below (fieldAt n) v e))
+      rw (place-line 2 8 n v (lt-of-lt-of-le (number-below (m .dev .chip) n v e) (lit≤ {m = 832} {n = 256 ^ 4} tt)), value-line 2 8 n v (fits-below (m .dev .chip) (fieldAt (m .dev .chip) n) v e))
 
   -- ---- a group's records
 

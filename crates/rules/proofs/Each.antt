@@ -13,13 +13,13 @@ use Rattle.rules.specs.declared.Device.{Device as HeldDevice}
 use Rattle.rules.specs.Act.{Act, Done, Endless, Stage, Fetch, Store, Ask, Put, Look, Space, window, table, Field, Setting, stage, fetch, store, ask, put, change, look, when}
 use Rattle.rules.specs.Act as acts
 use Rattle.rules.specs.Bytes.{bytes, splice}
-use Rattle.rules.specs.Fields.{bitsOf, holds, withField, settingOf, ownOf, partsOf}
+use Rattle.rules.specs.Fields.{bitsOf, bitsIn, holds, withField, settingOf, ownOf, partsOf}
 use Rattle.rules.specs.With.{withTable}
 use Rattle.rules.specs.Carry.{Machine, World, no, bytesOf, withBytesOf, withDevice, indexOf, there, legal, fetched, stored, recorded, go, Lent}
 use Rattle.rules.proofs.BytesLaws.{length-part, length-splice, bytes-bytes, bytes-splice}
 use Rattle.rules.proofs.FieldLaws.{Sound, put-law, put-sound, holds-fits}
 use Rattle.rules.proofs.Typed.{Typed, sound, table-size}
-use Rattle.rules.proofs.Steps.{putting}
+use Rattle.rules.proofs.Steps.{cutting}
 use Rattle.rules.proofs.Keeps.{AtEnd}
 
 infixl 20 _>>=_
@@ -124,7 +124,7 @@ proper-table i n v d p = record {
   size = length-splice (d .table) i (bytes n v) ∙ p .size;
 }
 
-pub proper-field : (f : Field) (v : ℕ) (d : Device) → v < 2 ^ bitsOf f → Proper d → Proper (withField f v d)
+pub proper-field : (f : Field) (v : ℕ) (d : Device) → v < 2 ^ bitsIn (d .chip) f → Proper d → Proper (withField f v d)
 proper-field f v d l p = record { sound = put-sound f v d (p .sound) l; size = ap length (put-law f v d (p .sound .three) .table) ∙ p .size }
 
 pub proper-store : (base : ℕ) (u : World) → Proper (u .now .dev) → (sp : Space) (a n v : ℕ) → Proper (recorded base sp a n v u .now .dev)
@@ -132,9 +132,11 @@ unfolding recorded stored withBytesOf bytesOf
 proper-store base u p window a n v = p
 proper-store base u p table a n v = proper-table (indexOf base table a) n v (u .now .dev) p
 
-pub proper-put : (f : Field) (v : ℕ) (u : World) → Proper (u .now .dev) → Proper (putting f (v % 2 ^ bitsOf f) u .now .dev)
+pub proper-put : (f : Field) (v : ℕ) (u : World) → Proper (u .now .dev) → Proper (cutting f v u .now .dev)
 unfolding withDevice
-proper-put f v u p = proper-field f (v % 2 ^ bitsOf f) (u .now .dev) (mod-lt v (pow-pos (bitsOf f))) p
+proper-put f v u p =
+    let b = bitsIn (u .now .dev .chip) f in
+    proper-field f (v % 2 ^ b) (u .now .dev) (mod-lt v (pow-pos b)) p
 
 pub fetched-length : (base : ℕ) (sp : Space) (a n : ℕ) (m : Machine) → length (fetched base sp a n m) ≡ n
 unfolding fetched
@@ -147,7 +149,7 @@ Properly P u = Proper (u .now .dev) × P u
 
 module _ (base : ℕ) (lent : Lent) (r : Rights) (P : World → Type 0)
     (onStore : (sp : Space) (a n v : ℕ) (u : World) → Proper (u .now .dev) → r .may-store sp a n → there base sp a n (u .now) ≡ true → P u → P (recorded base sp a n v u))
-    (onPut : (f : Field) (v : ℕ) (u : World) → Proper (u .now .dev) → r .may-put f → P u → P (putting f (v % 2 ^ bitsOf f) u))
+    (onPut : (f : Field) (v : ℕ) (u : World) → Proper (u .now .dev) → r .may-put f → P u → P (cutting f v u))
   where
     pub each-keeps : {A : Type 0} {m : Act A} → Each r m → (u : World) → Properly P u → AtEnd (Properly P) (go base lent m u)
     unfolding go
@@ -174,5 +176,5 @@ module _ (base : ℕ) (lent : Lent) (r : Rights) (P : World → Type 0)
         made-or true true false e g = p
         made-or true true true e g = g (proper-store base u (p .0) sp a n v, onStore sp a n v u (p .0) h e (p .1))
     each-keeps (at-ask {f} q) u p = each-keeps (q (holds f (u .now .dev)) (holds-fits f (u .now .dev) (p .0 .sound))) u p
-    each-keeps (at-put {f} {v} h q) u p = each-keeps q (putting f (v % 2 ^ bitsOf f) u) (proper-put f v u (p .0), onPut f v u (p .0) h (p .1))
+    each-keeps (at-put {f} {v} h q) u p = each-keeps q (cutting f v u) (proper-put f v u (p .0), onPut f v u (p .0) h (p .1))
     each-keeps (at-look {s} q) u p = each-keeps (q (settingOf s (u .now .dev))) u p

@@ -1,21 +1,21 @@
 -- No invented end count: the numbers of passes that the loops of channel 35 and of START recurse on never decide. Assumes nothing.
-use mathlib.Core.Bool.{Bool, true, false, cond, _&&_, _||_}
+use mathlib.Core.Bool.{Bool, true, false, cond, not, _&&_, _||_}
 use mathlib.Core.List.{List}
 use mathlib.Core.Path.{_≡_, refl, sym, ap, _∙_}
-use Prim.Native.Nat.{ℕ, zero, suc, _+_, _*_, _^_, _<_, _≤_, min}
+use Prim.Native.Nat.{ℕ, zero, suc, _+_, _*_, _^_, _<_, _≤_}
 use native.Mathlib.Omega.{arith}
 use borrow.Author.Tests.{eqb-true, eqb-false, ltb-false}
 use lib.Bits.{bitAnd, bitOr}
 use lib.Dec.{eqb, ltb}
 use lib.ListN.{length, length-drop}
 use Rattle.rules.specs.State.{Device}
-use Rattle.rules.specs.Act.{Act, done, nothing, ask, put, change, when, _>>=_, _>>_, Field, BUSY, MAJORS}
-use Rattle.rules.specs.Scalars.{KICK, DEFERRED, DEADLINE}
+use Rattle.rules.specs.Act.{Act, done, nothing, ask, put, change, look, when, _>>=_, _>>_, Field, BUSY, MAJORS, CHIP}
+use Rattle.rules.specs.Scalars.{KICK, DEFERRED}
 use Rattle.rules.specs.Carry.{World, go, Lent}
 use Rattle.rules.specs.Fields.{bitsOf, holds}
 use Rattle.rules.specs.Words.{has, gain, lose, lowest}
 use Rattle.rules.specs.Minor.{START, DONE, descriptor, pass}
-use Rattle.rules.specs.Run.{offered, requesting, startLoop, startPasses, lineLoop, linePasses, serveLine, requestLoop, requestPasses, serve, turn, turns, runTurns, runAll, release, serviceAll}
+use Rattle.rules.specs.Run.{offered, requesting, startLoop, startPasses, lineLoop, linePasses, paced, serveLine, requestLoop, requestPasses, serve, turn, turns, runTurns, chipTurns, runAll, release, serviceAll}
 use Rattle.rules.specs.Calls.{Asked, write, inputs, pending, run, service, ack, levelled, actOf, badJournal, wrong, worldOf}
 use Rattle.rules.specs.declared.Heard.{Heard}
 use Rattle.rules.proofs.BoolLaws.{and-left, and-right}
@@ -137,8 +137,7 @@ module _ (o : Limits) where
     unfoldable pub serveLineOr : Act (Unit {0})
     serveLineOr = do
       sum ← lineOr (o .lineRest) (o .lines) 0
-      put (BUSY 35) (now + sum * pace)
-      change DEADLINE (λ deadline. min deadline (now + sum * pace))
+      paced now pace sum
 
     unfoldable pub serveOr : ℕ → Act (Unit {0})
     serveOr ch = do
@@ -163,6 +162,12 @@ module _ (o : Limits) where
         _ ← turnOr (lowest kick)
         turnsOr n)
 
+    -- the turns of the chip's mode have no such loops
+    unfoldable pub runOr : Act (Unit {0})
+    runOr = do
+      chip ← look CHIP
+      cond chip (chipTurns now pace runTurns 0) (turnsOr runTurns)
+
     unfoldable pub serviceOr : Act (Unit {0})
     serviceOr = do
       back ← release now 64 0 0
@@ -170,13 +175,14 @@ module _ (o : Limits) where
       asking ← requesting
       put DEFERRED 0
       change KICK (λ k. bitOr k (bitAnd (bitOr back deferred) (bitOr asking k)))
-      turnsOr runTurns
+      kick ← ask KICK
+      when (not (eqb kick 0)) runOr
 
   unfoldable pub actOr : Asked → Act Heard
   actOr (write address size v) = actOf (write address size v)
   actOr (inputs standing l0 l1 l2) = actOf (inputs standing l0 l1 l2)
   actOr (pending ch count) = actOf (pending ch count)
-  actOr (run now pace) = levelled (turnsOr now pace runTurns)
+  actOr (run now pace) = levelled (runOr now pace)
   actOr (service now pace) = levelled (serviceOr now pace)
   actOr (ack ipl) = actOf (ack ipl)
 
@@ -264,19 +270,23 @@ module _ (base : ℕ) (lent : Lent) (o : Limits) (enough : Enough o) where
         alike-asked KICK λ kick b. alike-cond (eqb kick 0) (λ _. alike) λ e.
         alike-bind (turn-alike (lowest kick) (lowest-below kick (omega (arith, eqb-false kick 0 e)) b)) λ _. turns-alike n
 
+    run-alike : Alike base lent (runAll now pace) (runOr o now pace)
+    unfolding runAll runOr
+    run-alike = alike-bind alike λ chip. alike-cond chip (λ _. alike) (λ _. turns-alike runTurns)
+
     service-alike : Alike base lent (serviceAll now pace) (serviceOr o now pace)
-    unfolding serviceAll serviceOr runAll
+    unfolding serviceAll serviceOr
     service-alike =
         alike-bind alike λ back. alike-bind alike λ deferred. alike-bind alike λ asking.
-        alike-then alike (alike-then alike (turns-alike runTurns))
+        alike-then alike (alike-then alike (alike-bind alike λ kick. alike-when (not (eqb kick 0)) run-alike))
 
   -- no call's act depends on these numbers, nor on what stands where they run out
   pub call-alike : (c : Asked) → Alike base lent (actOf c) (actOr o c)
-  unfolding actOf actOr levelled runAll
+  unfolding actOf actOr levelled
   call-alike (write address size v) = alike
   call-alike (inputs standing l0 l1 l2) = alike
   call-alike (pending ch count) = alike
-  call-alike (run now pace) = alike-then (turns-alike now pace runTurns) alike
+  call-alike (run now pace) = alike-then (run-alike now pace) alike
   call-alike (service now pace) = alike-then (service-alike now pace) alike
   call-alike (ack ipl) = alike
 

@@ -1,44 +1,45 @@
 -- Laws of one field of a device: what it holds, what putting it changes, where its number leads. Assumes nothing.
-use mathlib.Core.Bool.{Bool, true, _&&_}
+use mathlib.Core.Bool.{Bool, true, false, cond, _&&_, _||_}
 use mathlib.Core.List.{List, [], _∷_}
 use mathlib.Core.Option.{Option, none, some}
 use mathlib.Core.Path.{_≡_, refl, sym, ap, _∙_, subst, subst⁻¹}
-use Prim.Native.Nat.{ℕ, zero, suc, _+_, _-_, _^_, _<_}
-use native.Mathlib.Nat.{not-suc-le-zero, zero-add}
+use Prim.Native.Nat.{ℕ, zero, suc, _+_, _-_, _^_, _<_, _≤_, zero-le}
+use native.Mathlib.Nat.{not-suc-le-zero, zero-add, le-refl, lt-of-lt-of-le}
 use native.Mathlib.Omega.{arith}
 use borrow.Author.Tests.{eqb-true, ltb-true}
 use lib.Dec.{eqb, ltb}
+use lib.Pow.{pow-mono}
 use lib.ListN.{getD, set, length, replicate, getD-replicate, length-set}
 use Rattle.rules.specs.State.{Controller, Device}
-use Rattle.rules.specs.Act.{Field, SCALAR, MASKS, FORCED, LINES, CONFIG, BUSY, MAJORS, PENDING, SOURCE, TAKEN}
+use Rattle.rules.specs.Act.{Field, SCALAR, MASKS, FORCED, LINES, CONFIG, BUSY, MAJORS, PENDING, SOURCE, TAKEN, PRIORITY, Setting, IGNORE, CHIP}
 use Rattle.rules.specs.Scalars.{scalarBits}
 use Rattle.rules.specs.Bytes.{Bytes}
 use Rattle.rules.specs.With.{withControllers, withMasks, withForced, withLines, withConfig, withLevels}
-use Rattle.rules.specs.Fields.{joined, controller, ownOf, partsOf, fieldsOf, numberOf, bitsOf, fieldAt, ofController, holds, withField}
+use Rattle.rules.specs.Fields.{joined, controller, ownOf, partsOf, fieldsOf, numberOf, bitsOf, inBoth, bitsIn, fieldAt, ofController, holds, withField, settingOf}
 use Rattle.rules.proofs.BoolLaws.{and-left, and-right}
 use Rattle.rules.proofs.PartLaws.{any-default, start, Sized, set-part, get-part, Within, Fitting, setIn, fitting-set, fitting-joined, fitting-sized, fitting-get}
 
--- ---- the parts of a device: their sizes, and the bits of each element; 0 where there is no such field
+-- ---- the parts of a device: their sizes, and the bits of each element in a mode; 0 where there is no such field
 
 abbrev pub sizes : List ℕ
-sizes = length scalarBits ∷ (16 - length scalarBits) ∷ 48 ∷ 64 ∷ 64 ∷ 64 ∷ 64 ∷ 64 ∷ 64 ∷ 128 ∷ 192 ∷ []
+sizes = length scalarBits ∷ (16 - length scalarBits) ∷ 48 ∷ 64 ∷ 64 ∷ 64 ∷ 64 ∷ 64 ∷ 64 ∷ 128 ∷ 192 ∷ 64 ∷ []
 
-unfoldable pub bitParts : List (List ℕ)
-bitParts =
+unfoldable pub bitParts : Bool → List (List ℕ)
+bitParts chip =
     scalarBits ∷ replicate (16 - length scalarBits) 0 ∷ (64 ∷ 64 ∷ 64 ∷ 16 ∷ 64 ∷ 64 ∷ 64 ∷ 16 ∷ 64 ∷ 64 ∷ 64 ∷ 16 ∷ replicate 36 0)
-    ∷ replicate 64 64 ∷ replicate 64 64 ∷ replicate 64 32 ∷ replicate 64 8 ∷ replicate 64 8 ∷ replicate 64 8 ∷ replicate 128 0 ∷ replicate 192 64 ∷ []
+    ∷ replicate 64 64 ∷ replicate 64 64 ∷ replicate 64 32 ∷ replicate 64 8 ∷ replicate 64 8 ∷ replicate 64 8 ∷ replicate 128 0 ∷ replicate 192 64 ∷ replicate 64 (cond chip 6 0) ∷ []
 
-unfoldable pub fieldBits : List ℕ
-fieldBits = joined bitParts
+unfoldable pub fieldBits : Bool → List ℕ
+fieldBits chip = joined (bitParts chip)
 
 -- three controllers, every field within its bits, a table of bytes; so is every value of the type (`Typed`)
 pub record Sound (d : Device) : Type 0 where
   pub three : length (d .controllers) ≡ 3
-  pub fitting : Fitting bitParts (partsOf d)
+  pub fitting : Fitting (bitParts (d .chip)) (partsOf d)
   pub table-bytes : Bytes (d .table)
 
 pub sized : (d : Device) → Sound d → Sized sizes (partsOf d)
-sized d s = (unfold bitParts in fitting-sized bitParts (partsOf d) (s .fitting))
+sized d s = (unfold bitParts in fitting-sized (bitParts (d .chip)) (partsOf d) (s .fitting))
 
 -- each controller has 64 level bytes
 pub levels-long : (d : Device) → Sound d → (c : ℕ) → c < 3 → length (controller (d .controllers) c .levels) ≡ 64
@@ -48,22 +49,22 @@ levels-long d s (suc zero) h = sized d s .1 .1 .1 .1 .1 .1 .1 .0
 levels-long d s (suc (suc zero)) h = sized d s .1 .1 .1 .1 .1 .1 .1 .1 .0
 levels-long d s (suc (suc (suc c))) h = absurd (omega arith)
 
-pub within : (d : Device) → Sound d → Within fieldBits (fieldsOf d)
+pub within : (d : Device) → Sound d → Within (fieldBits (d .chip)) (fieldsOf d)
 unfolding fieldBits fieldsOf
-within d s = fitting-joined bitParts (partsOf d) (s .fitting)
+within d s = fitting-joined (bitParts (d .chip)) (partsOf d) (s .fitting)
 
--- ---- where a field is: its part, and its place there. Part 11: nowhere
+-- ---- where a field is: its part, and its place there. Part 12: nowhere
 abbrev own : ℕ → ℕ → ℕ × ℕ
 own zero k = (2, k)
 own (suc zero) k = (2, 4 + k)
 own (suc (suc zero)) k = (2, 8 + k)
-own (suc (suc (suc c))) k = (11, 0)
+own (suc (suc (suc c))) k = (12, 0)
 
 abbrev levelsAt : ℕ → ℕ → ℕ × ℕ
 levelsAt zero s = (6, s)
 levelsAt (suc zero) s = (7, s)
 levelsAt (suc (suc zero)) s = (8, s)
-levelsAt (suc (suc (suc c))) s = (11, 0)
+levelsAt (suc (suc (suc c))) s = (12, 0)
 
 unfoldable pub spot : Field → ℕ × ℕ
 spot (SCALAR i) = (0, i)
@@ -76,6 +77,7 @@ spot (MAJORS ch) = (4, ch)
 spot (PENDING ch) = (5, ch)
 spot (SOURCE c s) = levelsAt c s
 spot (TAKEN i) = (10, i)
+spot (PRIORITY ch) = (11, ch)
 
 -- there is such a field: a channel below 64, a controller below 3, a source below 64, a vector from 64 to 255
 abbrev pub Real : Field → Type 0
@@ -109,35 +111,37 @@ spot-number (SOURCE (suc zero) s) h = refl
 spot-number (SOURCE (suc (suc zero)) s) h = refl
 spot-number (SOURCE (suc (suc (suc c))) s) h = absurd (not-suc-le-zero h)
 spot-number (TAKEN i) h = omega arith
+spot-number (PRIORITY ch) h = refl
 
--- a field has its spot's bits
-spot-bits : (f : Field) → spot f .1 < length (getD bitParts (spot f .0) []) → getD (getD bitParts (spot f .0) []) (spot f .1) 0 ≡ bitsOf f
+-- a field has its spot's bits, in every mode
+spot-bits : (chip : Bool) (f : Field) → spot f .1 < length (getD (bitParts chip) (spot f .0) []) → getD (getD (bitParts chip) (spot f .0) []) (spot f .1) 0 ≡ bitsIn chip f
 unfolding spot bitParts bitsOf
-spot-bits (SCALAR i) h = any-default scalarBits i 0 64 h
-spot-bits (MASKS zero) h = refl
-spot-bits (MASKS (suc zero)) h = refl
-spot-bits (MASKS (suc (suc zero))) h = refl
-spot-bits (MASKS (suc (suc (suc c)))) h = absurd (not-suc-le-zero h)
-spot-bits (FORCED zero) h = refl
-spot-bits (FORCED (suc zero)) h = refl
-spot-bits (FORCED (suc (suc zero))) h = refl
-spot-bits (FORCED (suc (suc (suc c)))) h = absurd (not-suc-le-zero h)
-spot-bits (LINES zero) h = refl
-spot-bits (LINES (suc zero)) h = refl
-spot-bits (LINES (suc (suc zero))) h = refl
-spot-bits (LINES (suc (suc (suc c)))) h = absurd (not-suc-le-zero h)
-spot-bits (CONFIG zero) h = refl
-spot-bits (CONFIG (suc zero)) h = refl
-spot-bits (CONFIG (suc (suc zero))) h = refl
-spot-bits (CONFIG (suc (suc (suc c)))) h = absurd (not-suc-le-zero h)
-spot-bits (BUSY ch) h = getD-replicate 64 ch 64 0 h
-spot-bits (MAJORS ch) h = getD-replicate 64 ch 64 0 h
-spot-bits (PENDING ch) h = getD-replicate 64 ch 32 0 h
-spot-bits (SOURCE zero s) h = getD-replicate 64 s 8 0 h
-spot-bits (SOURCE (suc zero) s) h = getD-replicate 64 s 8 0 h
-spot-bits (SOURCE (suc (suc zero)) s) h = getD-replicate 64 s 8 0 h
-spot-bits (SOURCE (suc (suc (suc c))) s) h = absurd (not-suc-le-zero h)
-spot-bits (TAKEN i) h = getD-replicate 192 i 64 0 h
+spot-bits chip (SCALAR i) h = any-default scalarBits i 0 64 h
+spot-bits chip (MASKS zero) h = refl
+spot-bits chip (MASKS (suc zero)) h = refl
+spot-bits chip (MASKS (suc (suc zero))) h = refl
+spot-bits chip (MASKS (suc (suc (suc c)))) h = absurd (not-suc-le-zero h)
+spot-bits chip (FORCED zero) h = refl
+spot-bits chip (FORCED (suc zero)) h = refl
+spot-bits chip (FORCED (suc (suc zero))) h = refl
+spot-bits chip (FORCED (suc (suc (suc c)))) h = absurd (not-suc-le-zero h)
+spot-bits chip (LINES zero) h = refl
+spot-bits chip (LINES (suc zero)) h = refl
+spot-bits chip (LINES (suc (suc zero))) h = refl
+spot-bits chip (LINES (suc (suc (suc c)))) h = absurd (not-suc-le-zero h)
+spot-bits chip (CONFIG zero) h = refl
+spot-bits chip (CONFIG (suc zero)) h = refl
+spot-bits chip (CONFIG (suc (suc zero))) h = refl
+spot-bits chip (CONFIG (suc (suc (suc c)))) h = absurd (not-suc-le-zero h)
+spot-bits chip (BUSY ch) h = getD-replicate 64 ch 64 0 h
+spot-bits chip (MAJORS ch) h = getD-replicate 64 ch 64 0 h
+spot-bits chip (PENDING ch) h = getD-replicate 64 ch 32 0 h
+spot-bits chip (SOURCE zero s) h = getD-replicate 64 s 8 0 h
+spot-bits chip (SOURCE (suc zero) s) h = getD-replicate 64 s 8 0 h
+spot-bits chip (SOURCE (suc (suc zero)) s) h = getD-replicate 64 s 8 0 h
+spot-bits chip (SOURCE (suc (suc (suc c))) s) h = absurd (not-suc-le-zero h)
+spot-bits chip (TAKEN i) h = getD-replicate 192 i 64 0 h
+spot-bits chip (PRIORITY ch) h = getD-replicate 64 ch (cond chip 6 0) 0 h
 
 -- ---- a field stored
 
@@ -190,62 +194,89 @@ levels-put d (suc zero) s v x y z = refl
 levels-put d (suc (suc zero)) s v x y z = refl
 levels-put d (suc (suc (suc c))) s v x y z = refl
 
+-- no field is a setting
+pub put-setting : (s : Setting) (f : Field) (v : ℕ) (d : Device) → settingOf s (withField f v d) ≡ settingOf s d
+put-setting IGNORE f v d = by f
+  where
+    by : (f : Field) → withField f v d .ignore ≡ d .ignore
+    by (SCALAR i) = refl
+    by (MASKS c) = refl
+    by (FORCED c) = refl
+    by (LINES c) = refl
+    by (CONFIG c) = refl
+    by (BUSY ch) = refl
+    by (MAJORS ch) = refl
+    by (PENDING ch) = refl
+    by (SOURCE c s) = refl
+    by (TAKEN i) = refl
+    by (PRIORITY ch) = refl
+put-setting CHIP f v d = by f
+  where
+    by : (f : Field) → withField f v d .chip ≡ d .chip
+    by (SCALAR i) = refl
+    by (MASKS c) = refl
+    by (FORCED c) = refl
+    by (LINES c) = refl
+    by (CONFIG c) = refl
+    by (BUSY ch) = refl
+    by (MAJORS ch) = refl
+    by (PENDING ch) = refl
+    by (SOURCE c s) = refl
+    by (TAKEN i) = refl
+    by (PRIORITY ch) = refl
+
 -- e is d with v at a spot of its parts
 pub record PutAt (d e : Device) (s : ℕ × ℕ) (v : ℕ) : Type 0 where
   pub three : length (e .controllers) ≡ 3
   pub table : e .table ≡ d .table
-  pub ignore : e .ignore ≡ d .ignore
   pub parts : partsOf e ≡ setIn (partsOf d) s v
 
 -- the one law of each field
 pub put-law : (f : Field) (v : ℕ) (d : Device) → length (d .controllers) ≡ 3 → PutAt d (withField f v d) (spot f) v
 unfolding spot partsOf ownOf
-put-law (SCALAR i) v d h = record { three = h; table = refl; ignore = refl; parts = refl }
+put-law (SCALAR i) v d h = record { three = h; table = refl; parts = refl }
 put-law (MASKS c) v d h = record {
   three = length-set (d .controllers) c _ ∙ h;
   table = refl;
-  ignore = refl;
   parts = in-three (InParts d c (λ k. withMasks k v) (own c 0) v) (masks-put d c v) (d .controllers) h;
 }
 put-law (FORCED c) v d h = record {
   three = length-set (d .controllers) c _ ∙ h;
   table = refl;
-  ignore = refl;
   parts = in-three (InParts d c (λ k. withForced k v) (own c 1) v) (forced-put d c v) (d .controllers) h;
 }
 put-law (LINES c) v d h = record {
   three = length-set (d .controllers) c _ ∙ h;
   table = refl;
-  ignore = refl;
   parts = in-three (InParts d c (λ k. withLines k v) (own c 2) v) (lines-put d c v) (d .controllers) h;
 }
 put-law (CONFIG c) v d h = record {
   three = length-set (d .controllers) c _ ∙ h;
   table = refl;
-  ignore = refl;
   parts = in-three (InParts d c (λ k. withConfig k v) (own c 3) v) (config-put d c v) (d .controllers) h;
 }
-put-law (BUSY ch) v d h = record { three = h; table = refl; ignore = refl; parts = refl }
-put-law (MAJORS ch) v d h = record { three = h; table = refl; ignore = refl; parts = refl }
-put-law (PENDING ch) v d h = record { three = h; table = refl; ignore = refl; parts = refl }
+put-law (BUSY ch) v d h = record { three = h; table = refl; parts = refl }
+put-law (MAJORS ch) v d h = record { three = h; table = refl; parts = refl }
+put-law (PENDING ch) v d h = record { three = h; table = refl; parts = refl }
 put-law (SOURCE c s) v d h = record {
   three = length-set (d .controllers) c _ ∙ h;
   table = refl;
-  ignore = refl;
   parts = in-three (InParts d c (λ k. withLevels k (set (k .levels) s v)) (levelsAt c s) v) (levels-put d c s v) (d .controllers) h;
 }
-put-law (TAKEN i) v d h = record { three = h; table = refl; ignore = refl; parts = refl }
+put-law (TAKEN i) v d h = record { three = h; table = refl; parts = refl }
+put-law (PRIORITY ch) v d h = record { three = h; table = refl; parts = refl }
 
 module _ (f : Field) (v : ℕ) (d : Device) (s : Sound d) where
-  pub put-sound : v < 2 ^ bitsOf f → Sound (withField f v d)
+  pub put-sound : v < 2 ^ bitsIn (d .chip) f → Sound (withField f v d)
   put-sound h =
       let p = put-law f v d (s .three) in
       record {
         three = p .three;
         table-bytes = rw (p .table) (s .table-bytes);
         fitting =
-            subst (Fitting bitParts) (sym (p .parts))
-            (fitting-set bitParts (partsOf d) (spot f .0) (spot f .1) v (s .fitting) (λ l. subst (λ b. v < 2 ^ b) (sym (spot-bits f l)) h));
+            subst (λ c. Fitting (bitParts c) (partsOf (withField f v d))) (sym (put-setting CHIP f v d))
+            (subst (Fitting (bitParts (d .chip))) (sym (p .parts))
+            (fitting-set (bitParts (d .chip)) (partsOf d) (spot f .0) (spot f .1) v (s .fitting) (λ l. subst (λ b. v < 2 ^ b) (sym (spot-bits (d .chip) f l)) h)));
       }
 
   -- the fields by number: the field's own changes, and no other
@@ -289,10 +320,23 @@ get-law (SOURCE (suc (suc (suc c))) s) d h = in-three (λ cs. getD (controller c
     nothing zero = refl
     nothing (suc s) = refl
 get-law (TAKEN i) d h = refl
+get-law (PRIORITY ch) d h = refl
+
+-- it fits the bits that it has in the device's mode, and so those that it has at all
+pub holds-fits-in : (f : Field) (d : Device) → Sound d → holds f d < 2 ^ bitsIn (d .chip) f
+holds-fits-in f d s =
+    subst⁻¹ (λ x. x < 2 ^ bitsIn (d .chip) f) (get-law f d (s .three))
+    (fitting-get (bitParts (d .chip)) (partsOf d) (spot f .0) (spot f .1) (bitsIn (d .chip) f) (s .fitting) (spot-bits (d .chip) f))
+
+pub bits-most : (chip : Bool) (f : Field) → bitsIn chip f ≤ bitsOf f
+bits-most chip f = by (inBoth f || chip)
+  where
+    by : (b : Bool) → cond b (bitsOf f) 0 ≤ bitsOf f
+    by true = le-refl (bitsOf f)
+    by false = zero-le
 
 pub holds-fits : (f : Field) (d : Device) → Sound d → holds f d < 2 ^ bitsOf f
-holds-fits f d s =
-    subst⁻¹ (λ x. x < 2 ^ bitsOf f) (get-law f d (s .three)) (fitting-get bitParts (partsOf d) (spot f .0) (spot f .1) (bitsOf f) (s .fitting) (spot-bits f))
+holds-fits f d s = lt-of-lt-of-le (holds-fits-in f d s) (pow-mono (bits-most (d .chip) f))
 
 -- and the document's number leads there
 pub holds-number : (f : Field) (d : Device) → Sound d → Real f → getD (fieldsOf d) (numberOf f) 0 ≡ holds f d
@@ -301,37 +345,37 @@ holds-number f d s h =
     ap (λ (n : ℕ). getD (fieldsOf d) n 0) (sym (spot-number f h)) ∙ get-part sizes (partsOf d) (sized d s) (spot f .0) (spot f .1) h
     ∙ sym (get-law f d (s .three))
 
--- ---- all 768 numbers, by one test that is computed
+-- ---- all 832 numbers, in each mode by one test that is computed
 
--- the field of number n, of b bits
-pub record Named (n b : ℕ) (f : Field) : Type 0 where
+-- the field of number n, of b bits in the mode
+pub record Named (chip : Bool) (n b : ℕ) (f : Field) : Type 0 where
   pub number : numberOf f ≡ n
-  pub bits : bitsOf f ≡ b
+  pub bits : bitsIn chip f ≡ b
   pub real : Real f
 
 -- what stands at number n of the fields: a field of b bits, or none, and then no bits
-abbrev pub Agrees : ℕ → ℕ → Option Field → Type 0
-Agrees n b none = b ≡ 0
-Agrees n b (some f) = Named n b f
+abbrev pub Agrees : Bool → ℕ → ℕ → Option Field → Type 0
+Agrees chip n b none = b ≡ 0
+Agrees chip n b (some f) = Named chip n b f
 
 -- and so from number n on
-abbrev pub AllNamed : ℕ → List ℕ → Type 0
-AllNamed n [] = Unit {0}
-AllNamed n (b ∷ bs) = Agrees n b (fieldAt n) × AllNamed (suc n) bs
+abbrev pub AllNamed : Bool → ℕ → List ℕ → Type 0
+AllNamed chip n [] = Unit {0}
+AllNamed chip n (b ∷ bs) = Agrees chip n b (fieldAt chip n) × AllNamed chip (suc n) bs
 
-abbrev agrees : ℕ → ℕ → Option Field → Bool
-agrees n b none = eqb b 0
-agrees n b (some f) = eqb (numberOf f) n && eqb (bitsOf f) b && ltb (spot f .1) (getD sizes (spot f .0) 0)
+abbrev agrees : Bool → ℕ → ℕ → Option Field → Bool
+agrees chip n b none = eqb b 0
+agrees chip n b (some f) = eqb (numberOf f) n && eqb (bitsIn chip f) b && ltb (spot f .1) (getD sizes (spot f .0) 0)
 
-abbrev allAgree : ℕ → List ℕ → Bool
-allAgree n [] = true
-allAgree n (b ∷ bs) = agrees n b (fieldAt n) && allAgree (suc n) bs
+abbrev allAgree : Bool → ℕ → List ℕ → Bool
+allAgree chip n [] = true
+allAgree chip n (b ∷ bs) = agrees chip n b (fieldAt chip n) && allAgree chip (suc n) bs
 
-agreed : (n b : ℕ) (o : Option Field) → agrees n b o ≡ true → Agrees n b o
-agreed n b none t = eqb-true b 0 t
-agreed n b (some f) t =
+agreed : (chip : Bool) (n b : ℕ) (o : Option Field) → agrees chip n b o ≡ true → Agrees chip n b o
+agreed chip n b none t = eqb-true b 0 t
+agreed chip n b (some f) t =
     let number = eqb (numberOf f) n in
-    let bits = eqb (bitsOf f) b in
+    let bits = eqb (bitsIn chip f) b in
     let both = and-left (number && bits) _ t in
     record {
       number = eqb-true _ _ (and-left number bits both);
@@ -339,9 +383,11 @@ agreed n b (some f) t =
       real = ltb-true _ _ (and-right (number && bits) _ t);
     }
 
-all-agreed : (n : ℕ) (bs : List ℕ) → allAgree n bs ≡ true → AllNamed n bs
-all-agreed n [] t = tt
-all-agreed n (b ∷ bs) t = (agreed n b (fieldAt n) (and-left _ _ t), all-agreed (suc n) bs (and-right (agrees n b (fieldAt n)) _ t))
+all-agreed : (chip : Bool) (n : ℕ) (bs : List ℕ) → allAgree chip n bs ≡ true → AllNamed chip n bs
+all-agreed chip n [] t = tt
+all-agreed chip n (b ∷ bs) t = (agreed chip n b (fieldAt chip n) (and-left _ _ t), all-agreed chip (suc n) bs (and-right (agrees chip n b (fieldAt chip n)) _ t))
 
-pub all-named : AllNamed 0 fieldBits
-all-named = all-agreed 0 fieldBits (unfold fieldBits bitParts joined fieldAt ofController numberOf bitsOf spot start in refl)
+pub all-named : (chip : Bool) → AllNamed chip 0 (fieldBits chip)
+unfolding fieldBits bitParts joined fieldAt ofController numberOf bitsOf spot start
+all-named true = all-agreed true 0 (fieldBits true) refl
+all-named false = all-agreed false 0 (fieldBits false) refl

@@ -2,14 +2,14 @@
 use mathlib.Core.Bool.{Bool, true, false, _&&_, true≢false, false≢true}
 use mathlib.Core.List.{List, _++_}
 use mathlib.Core.Path.{_≡_, refl, sym, ap, _∙_, subst}
-use Prim.Native.Nat.{ℕ, _+_, _-_, _*_, _%_, _^_}
+use Prim.Native.Nat.{ℕ, _+_, _-_, _*_}
 use lib.Dec.{eqb, leb}
 use lib.ListN.{length, take, drop, replicate, length-append, length-drop, length-replicate}
 use Rattle.rules.specs.Act.{Act, Done, Endless, Stage, Fetch, Store, Ask, Put, Look}
-use Rattle.rules.specs.Fields.{bitsOf, holds, settingOf}
+use Rattle.rules.specs.Fields.{holds, settingOf}
 use Rattle.rules.specs.Carry.{Machine, World, Out, ok, no, there, legal, fetched, recorded, go, After, made, unmade, lastLines, written, cleared, leave, perform, undo, Lent}
 use Rattle.rules.specs.TakeBack.{value, allSound, ends, decodeAll, takeGroup, takeLast, takeEnd, takeBack}
-use Rattle.rules.proofs.Steps.{putting}
+use Rattle.rules.proofs.Steps.{cutting}
 
 -- what is compared of a world: window and device, and the used journal
 pub record Seen : Type 0 where
@@ -84,7 +84,7 @@ module _ (base : ℕ) (lent : Lent) where
       made-or true true false p h = absurd (true≢false p)
       made-or true false true p h = absurd (false≢true p)
   go-free (Ask n k) u f e = go-free (k (holds n (u .now .dev))) u f e
-  go-free (Put n x k) u f e = go-free k (putting n (x % 2 ^ bitsOf n) u) f e
+  go-free (Put n x k) u f e = go-free k (cutting n x u) f e
   go-free (Look s k) u f e = go-free (k (settingOf s (u .now .dev))) u f e
 
   pub go-agrees : {A : Type 0} (m : Act A) (u v : World) → Agree u v → AgreeOut (go base lent m u) (go base lent m v)

@@ -2,7 +2,7 @@
 -- list with an end. Assumes nothing.
 use mathlib.Core.List.{List, [], _++_, append-assoc, append-nil}
 use mathlib.Core.Path.{_≡_, refl, sym, ap, _∙_}
-use Prim.Native.Nat.{ℕ, _+_, _%_, _^_, _≤_, min}
+use Prim.Native.Nat.{ℕ, _+_, _≤_, min}
 use native.Mathlib.Omega.{arith}
 use lib.ListN.{length, take, length-append, length-take, length-drop}
 use lib.Seq.{take-at, take-take, length-take-le}
@@ -11,10 +11,9 @@ use Rattle.rules.specs.Act.{Act, Space, Field}
 use Rattle.rules.specs.Calls.{worldOf}
 use Rattle.rules.specs.Carry.{World, lineOf, stoodAt, fetched, recorded, go, Lent}
 use Rattle.rules.specs.Bytes.{number}
-use Rattle.rules.specs.Fields.{bitsOf}
 use Rattle.rules.proofs.Back.{length-rec}
 use Rattle.rules.proofs.Keeps.{AtEnd, go-keeps}
-use Rattle.rules.proofs.Steps.{putting}
+use Rattle.rules.proofs.Steps.{cutting}
 
 pub record Grown (u v : World) : Type 0 where
   pub more : List ℕ
@@ -32,7 +31,7 @@ module _ (base : ℕ) (lent : Lent) (u : World) where
         total-is = omega (arith, length-append (w .used) (lineOf r), length-rec r, length-drop 16 (w .free), g .total-is);
       }
 
-  on-put : (f : Field) (v : ℕ) (w : World) → Grown u w → Grown u (putting f (v % 2 ^ bitsOf f) w)
+  on-put : (f : Field) (v : ℕ) (w : World) → Grown u w → Grown u (cutting f v w)
   on-put f v w g = record { more = g .more; used-is = g .used-is; total-is = g .total-is }
 
   pub go-grows : {A : Type 0} (m : Act A) → AtEnd (Grown u) (go base lent m u)

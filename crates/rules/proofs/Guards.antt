@@ -7,21 +7,21 @@ use native.Mathlib.Omega.{arith}
 use lib.Count.{trailingZeros, under}
 use lib.Dec.{eqb, leb, ltb, lit<}
 use lib.ListN.{length}
-use borrow.Author.Tests.{eqb-false, eqb-true, leb-true, ltb-false, not-false}
-use Rattle.rules.specs.Act.{Act, Done, Endless, Stage, Fetch, Store, Ask, Put, Look, Space, window, table, BUSY, MAJORS, PENDING}
+use borrow.Author.Tests.{eqb-false, eqb-true, leb-true, ltb-false, ltb-true, not-false}
+use Rattle.rules.specs.Act.{Act, Done, Endless, Stage, Fetch, Store, Ask, Put, Look, Space, window, table, BUSY, MAJORS, PENDING, PRIORITY, CHIP}
 use Rattle.rules.specs.Scalars.{ERQ, KICK, DEFERRED, DEADLINE, STANDING}
 use Rattle.rules.specs.Fields.{bitsOf, holds, settingOf}
 use Rattle.rules.specs.Carry.{World, Out, ok, no, there, legal, fetched, recorded, go, Lent}
 use Rattle.rules.specs.Words.{has, lowest}
 use Rattle.rules.specs.Minor.{START, DONE, descriptor, pass}
-use Rattle.rules.specs.Run.{requests, offered, startLoop, lineLoop, serveLine, requestLoop, startPasses, linePasses, requestPasses, serve, turn, turns, runTurns, runAll, release, serviceAll}
+use Rattle.rules.specs.Run.{requests, offered, startLoop, lineLoop, paced, serveLine, requestLoop, startPasses, linePasses, requestPasses, serve, turn, turns, runTurns, ready, choose, chipTurn, chipTurns, runAll, release, serviceAll}
 use Rattle.rules.specs.Registers.{within, inTable, blockOf, offsetOf, writeAt, pastTable, pastWord, inBlocks}
 use Rattle.rules.specs.Calls.{addPending, Asked, write, inputs, pending, run, service, ack, actOf, badSize, isNone, wrong}
 use Rattle.rules.proofs.BoolLaws.{and-left, or-either, neither}
 use Rattle.rules.proofs.CallLaws.{passed}
 use Rattle.rules.proofs.FieldLaws.{holds-fits}
-use Rattle.rules.proofs.Steps.{putting, in-table, fetch-inside}
-use Rattle.rules.proofs.Each.{Rights, Each, at-done, at-endless, at-stage, at-fetch, at-store, at-ask, at-put, at-look, _>>=_, _>>_, each-ask, each-asked, each-put, each-change, each-when, each-cond, Proper, proper-store, proper-put, fetched-length}
+use Rattle.rules.proofs.Steps.{cutting, in-table, fetch-inside}
+use Rattle.rules.proofs.Each.{Rights, Each, at-done, at-endless, at-stage, at-fetch, at-store, at-ask, at-put, at-look, _>>=_, _>>_, each-fetch, each-ask, each-asked, each-put, each-change, each-look, each-when, each-cond, Proper, proper-store, proper-put, fetched-length}
 use Rattle.rules.proofs.PassLaws.{descriptor-each, pass-each}
 use Rattle.rules.proofs.Arms.{write-each}
 use Rattle.rules.proofs.Pieces.{requesting-each, levelled-each, acknowledge-each, inputs-each}
@@ -121,8 +121,14 @@ unfolding lowest
 lowest-below m h l = trailing-below 64 m h l
 
 module _ (now pace : ℕ) where
+  paced-guarded : (sum : ℕ) → Each guarded (paced now pace sum)
+  unfolding paced guarded
+  paced-guarded sum = do
+    each-put (BUSY 35) _ tt
+    each-change DEADLINE _ tt
+
   serve-guarded : (ch : ℕ) → ch < 64 → Each guarded (serve now pace ch)
-  unfolding serve serveLine guarded
+  unfolding serve serveLine
   serve-guarded ch h = do
     t ← own-guarded ch h
     majors ← each-ask (MAJORS ch)
@@ -132,8 +138,7 @@ module _ (now pace : ℕ) where
         (λ _. each-when asks λ _. each-cond (eqb ch 35)
         (λ _. do
           sum ← line-guarded linePasses 0
-          each-put (BUSY 35) _ tt
-          each-change DEADLINE _ tt)
+          paced-guarded sum)
         (λ _. request-guarded ch h requestPasses))
 
   turn-guarded : (ch : ℕ) → ch < 64 → Each guarded (turn now pace ch)
@@ -151,9 +156,45 @@ module _ (now pace : ℕ) where
         _ ← turn-guarded (lowest kick) (lowest-below kick (omega (arith, eqb-false kick 0 e)) l)
         turns-guarded n)
 
+  -- as the chip makes them
+  choose-guarded : (past left ch best top : ℕ) → ch + left ≤ 64 → Each guarded (choose now past left ch best top)
+  unfolding choose ready guarded
+  choose-guarded past zero ch best top h = at-done
+  choose-guarded past (suc left) ch best top h = do
+    is ← do
+      _ ← each-fetch _ _ _ (omega arith)
+      asks ← offered-each ch
+      busy ← each-ask (BUSY ch)
+      at-done
+    value ← each-ask (PRIORITY ch)
+    choose-guarded past left (suc ch) _ _ (omega arith)
+
+  chip-turn-guarded : (ch : ℕ) → ch < 64 → Each guarded (chipTurn now pace ch)
+  unfolding chipTurn guarded
+  chip-turn-guarded ch h = do
+    each-change KICK _ tt
+    t ← own-guarded ch h
+    each-when _ (λ _. each-change (PENDING ch) _ tt)
+    went ← pass-guarded ch h
+    each-when _ (λ _. paced-guarded _)
+    at-done
+
+  chip-turns-guarded : (n past : ℕ) → Each guarded (chipTurns now pace n past)
+  unfolding chipTurns
+  chip-turns-guarded zero past = at-done
+  chip-turns-guarded (suc n) past = do
+    ch ← choose-guarded past 64 0 64 0 (omega arith)
+    each-cond (ltb ch 64)
+        (λ e. do
+          went ← chip-turn-guarded ch (ltb-true ch 64 e)
+          chip-turns-guarded n _)
+        (λ _. at-done)
+
   run-guarded : Each guarded (runAll now pace)
   unfolding runAll
-  run-guarded = turns-guarded runTurns
+  run-guarded = do
+    chip ← each-look CHIP
+    each-cond chip (λ _. chip-turns-guarded runTurns 0) (λ _. turns-guarded runTurns)
 
 -- ---- service
 
@@ -174,7 +215,8 @@ service-guarded now pace = do
   asking ← requesting-each
   each-put DEFERRED 0 tt
   each-change KICK _ tt
-  run-guarded now pace
+  kick ← each-ask KICK
+  each-when _ (λ _. run-guarded now pace)
 
 -- ---- the calls
 
@@ -234,7 +276,7 @@ module _ (base : ℕ) (lent : Lent) where
       ]
   goBare (Store table a n v k) u = elim (leb 16 (length (u .free))) [ true ↦ goBare k (recorded base table a n v u) | false ↦ no 11 u ]
   goBare (Ask f k) u = goBare (k (holds f (u .now .dev))) u
-  goBare (Put f v k) u = goBare k (putting f (v % 2 ^ bitsOf f) u)
+  goBare (Put f v k) u = goBare k (cutting f v u)
   goBare (Look s k) u = goBare (k (settingOf s (u .now .dev))) u
 
 -- a test, the other of two tests that holds, and both
@@ -270,7 +312,7 @@ module _ (base : ℕ) (lent : Lent) where
       both-hold (there base table a n (u .now)) (legal table n) (no 9 u) (in-table base a n (u .now) (omega (arith, p .size, h .1))) (h .0)
       (ap (λ o. tested (leb 16 (length (u .free))) o (no 11 u)) (bare-same q (recorded base table a n v u) (proper-store base u p table a n v)))
   bare-same (at-ask {f} q) u p = bare-same (q (holds f (u .now .dev)) (holds-fits f (u .now .dev) (p .sound))) u p
-  bare-same (at-put {f} {v} h q) u p = bare-same q (putting f (v % 2 ^ bitsOf f) u) (proper-put f v u p)
+  bare-same (at-put {f} {v} h q) u p = bare-same q (cutting f v u) (proper-put f v u p)
   bare-same (at-look {s} q) u p = bare-same (q (settingOf s (u .now .dev))) u p
 
   -- and so for every call that refusals 1 to 8 do not refuse

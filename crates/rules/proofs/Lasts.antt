@@ -3,7 +3,7 @@
 use mathlib.Core.Bool.{Bool, true, false, _&&_}
 use mathlib.Core.List.{List, [], _∷_, _++_}
 use mathlib.Core.Path.{_≡_, refl, _∙_}
-use Prim.Native.Nat.{ℕ, _+_, _-_, _*_, _%_, _^_, _≤_}
+use Prim.Native.Nat.{ℕ, _+_, _-_, _*_, _%_, _≤_}
 use native.Mathlib.Omega.{arith}
 use borrow.Author.Tests.{leb-true}
 use lib.Dec.{eqb, leb, lit≤}
@@ -11,11 +11,11 @@ use lib.ListN.{length, take, drop, replicate, length-append, length-drop, length
 use lib.Seq.{length-take-le}
 use Rattle.rules.specs.Act.{Act, Done, Endless, Stage, Fetch, Store, Ask, Put, Look, Space, window, table, Field}
 use Rattle.rules.specs.Bytes.{bytes, number}
-use Rattle.rules.specs.Fields.{bitsOf, holds, settingOf}
+use Rattle.rules.specs.Fields.{holds, settingOf}
 use Rattle.rules.specs.Carry.{Machine, World, Rec, stoodAt, stoodIn, Out, ok, no, bytesOf, withBytesOf, withDevice, there, legal, fetched, stored, line, lineOf, endLine, recorded, go, After, made, unmade, lastLines, written, cleared, leave, perform, undoRec, undo, Lent}
 use Rattle.rules.specs.TakeBack.{value, allSound, ends, decodeAll, takeGroup, takeLast, takeEnd, takeBack}
 use Rattle.rules.proofs.BytesLaws.{length-splice}
-use Rattle.rules.proofs.Steps.{putting}
+use Rattle.rules.proofs.Steps.{cutting}
 use Rattle.rules.proofs.Keeps.{AtEnd, go-keeps}
 use Rattle.rules.proofs.Back.{length-rec, length-lines}
 use Rattle.rules.proofs.Took.{total}
@@ -101,7 +101,7 @@ module _ (base : ℕ) {n k : ℕ} where
         whole = omega (arith, length-append (u .used) (lineOf r), length-rec r, h .whole);
       }
 
-  put-lasts : (f : Field) (v : ℕ) (u : World) → Lasts n k u → Lasts n k (putting f (v % 2 ^ bitsOf f) u)
+  put-lasts : (f : Field) (v : ℕ) (u : World) → Lasts n k u → Lasts n k (cutting f v u)
   unfolding withDevice
   put-lasts f v u h = record { window-is = h .window-is; journal-is = h .journal-is; whole = h .whole }
 
@@ -182,7 +182,7 @@ go-numbered base lent {A} (Store sp a n v k) u =
       | false ↦ (lit≤ tt, lit≤ tt)
     ]
 go-numbered base lent (Ask f k) u = go-numbered base lent (k (holds f (u .now .dev))) u
-go-numbered base lent (Put f v k) u = go-numbered base lent k (putting f (v % 2 ^ bitsOf f) u)
+go-numbered base lent (Put f v k) u = go-numbered base lent k (cutting f v u)
 go-numbered base lent (Look s k) u = go-numbered base lent (k (settingOf s (u .now .dev))) u
 
 -- and so an act is

@@ -45,6 +45,7 @@ pub mod Stays
 pub mod Hearing
 -- demand 1: no test of the rules is left out or made in vain, and every call ends
 pub mod PassLaws
+pub mod Linked
 pub mod Guards
 pub mod Ends
 -- document 01's own examples, and traps that an easy misreading falls into

@@ -67,14 +67,14 @@ bit b = cond b 1 0
 
 -- controller 2 source 63 forced and masked, level 7
 unfoldable pub ringing : Device
-ringing = withField (SOURCE 2 63) 7 (withField (FORCED 2) (2 ^ 63) (fresh false))
+ringing = withField (SOURCE 2 63) 7 (withField (FORCED 2) (2 ^ 63) (fresh false false))
 
 unfoldable pub heardOf : Told → List ℕ
 heardOf (told n heard d w s j u) = n ∷ heardLevel heard ∷ heardVector heard ∷ []
 
 -- channel 0 with this `citer`, asked for one pass: its majors after it
 unfoldable pub onePass : ℕ → Device
-onePass citer = withField KICK 1 (withField ERQ 1 (withField (PENDING 0) 1 (withTable (fresh false) (tcdBytes (tcd 0x0202 4 citer citer 0) ++ replicate 2016 0))))
+onePass citer = withField KICK 1 (withField ERQ 1 (withField (PENDING 0) 1 (withTable (fresh false false) (tcdBytes (tcd 0x0202 4 citer citer 0) ++ replicate 2016 0))))
 
 unfoldable pub majorsAfter : ℕ → ℕ
 majorsAfter citer = holds (MAJORS 0) (deviceTold (after (run 0 0) 0x80000000 (onePass citer) (replicate 8 0) [] (replicate 512 0) 0))
@@ -124,7 +124,7 @@ unfoldable pub window₀ : List ℕ
 window₀ = 0x11 ∷ 0x22 ∷ 0x33 ∷ 0x44 ∷ 0 ∷ 0 ∷ 0 ∷ 0 ∷ []
 
 unfoldable pub device₀ : Device
-device₀ = withField KICK 1 (withTable (fresh false) (tcdBytes (tcd 0x0202 4 1 1 1) ++ replicate 2016 0))
+device₀ = withField KICK 1 (withTable (fresh false false) (tcdBytes (tcd 0x0202 4 1 1 1) ++ replicate 2016 0))
 
 -- a journal of 13 records' room, 0xEE all through
 unfoldable pub journal₀ : List ℕ

@@ -1,14 +1,16 @@
 -- Masks of bits (`specs/Words.antt`), said of `bit`: each bit of a mask that gained, lost or was cut; bounds; the lowest set bit.
 -- Assumes nothing.
+use mathlib.Core.Bool.{true, false, not, _&&_, _||_}
 use mathlib.Core.Path.{_≡_, refl, sym, ap, ap₂, _∙_, subst}
-use Prim.Native.Nat.{ℕ, zero, suc, _+_, _-_, _*_, _/_, _%_, _^_, _≤_, _<_, min}
-use native.Mathlib.Nat.{pow-suc, pow-succ', div-one, div-self, div-eq-of-lt, div-div-eq-div-mul, zero-lt-suc, mul-mod-left, mul-div-cancel, zero-div, mod-lt, sub-le, sub-zero}
+use Prim.Native.Nat.{ℕ, zero, suc, _+_, _-_, _*_, _/_, _%_, _^_, _≤_, _<_, min, max}
+use native.Mathlib.Nat.{pow-suc, pow-succ', div-one, div-self, div-eq-of-lt, div-div-eq-div-mul, zero-lt-suc, mul-mod-left, mul-div-cancel, zero-div, mod-lt, sub-le, sub-zero, not-suc-le-zero, le-of-suc-le-suc}
 use native.Mathlib.Omega.{arith}
 use lib.Arith.{digits-mod, digits-div, lt-of-le-ne, lt-one}
 use lib.Pow.{pow-pos, pow-lt}
-use lib.Bits.{bitAnd, and-step, or-lt, and-le-l}
+use lib.Bits.{bitAnd, bitOr, and-step, or-step, and-shr, or-shr, or-lt, and-le-l}
+use lib.Dec.{eqb}
 use lib.Count.{trailingZeros, under, trailing-le}
-use Rattle.rules.specs.Words.{gain, lose, without, lowest}
+use Rattle.rules.specs.Words.{has, gain, lose, without, lowest}
 
 -- bit i of m, 0 or 1: what `has` asks
 abbrev pub bit : ℕ → ℕ → ℕ
@@ -36,6 +38,18 @@ half-below w x h = halve (2 ^ w) (subst (λ (p : ℕ). x < p) (pow-suc 2 w) h)
     halve p h = omega arith
 
 -- ---- each bit of two masks joined
+
+bit-and : (a b i : ℕ) → bit (bitAnd a b) i ≡ min (bit a i) (bit b i)
+bit-and a b i = ap (λ (x : ℕ). x % 2) (and-shr a b i ∙ and-step (a / 2 ^ i) (b / 2 ^ i)) ∙ digits-mod _ (low (bit-lt a i) (bit-lt b i))
+  where
+    low : {x y : ℕ} → x < 2 → y < 2 → min x y < 2
+    low h k = omega arith
+
+bit-or : (a b i : ℕ) → bit (bitOr a b) i ≡ max (bit a i) (bit b i)
+bit-or a b i = ap (λ (x : ℕ). x % 2) (or-shr a b i ∙ or-step (a / 2 ^ i) (b / 2 ^ i)) ∙ digits-mod _ (low (bit-lt a i) (bit-lt b i))
+  where
+    low : {x y : ℕ} → x < 2 → y < 2 → max x y < 2
+    low h k = omega arith
 
 -- ---- a mask cut by another
 
@@ -130,7 +144,75 @@ lose-less m i b = lt-of-le-ne (lose-le m i) (λ e. apart (bit m i) (sym (lose-sa
     apart : (n : ℕ) → 0 ≡ n → n ≡ 1 → ⊥
     apart n p q = omega arith
 
+pub gain-same : (m i : ℕ) → bit (gain m i) i ≡ 1
+unfolding gain
+gain-same m i = bit-or m (2 ^ i) i ∙ ap (λ (b : ℕ). max (bit m i) b) (bit-pow-same i) ∙ top (bit-lt m i)
+  where
+    top : {n : ℕ} → n < 2 → max n 1 ≡ 1
+    top h = omega arith
+
+pub gain-other : (m i j : ℕ) → (i ≡ j → ⊥) → bit (gain m i) j ≡ bit m j
+unfolding gain
+gain-other m i j h = bit-or m (2 ^ i) j ∙ ap (λ (b : ℕ). max (bit m j) b) (bit-pow-other i j h) ∙ same (bit m j)
+  where
+    same : (n : ℕ) → max n 0 ≡ n
+    same n = omega arith
+
+-- ---- the same of what `has` asks
+
+-- of two digits
+digits-all : (P : ℕ → ℕ → Type 0) → P 0 0 → P 0 1 → P 1 0 → P 1 1 → (x y : ℕ) → x < 2 → y < 2 → P x y
+digits-all P a b c d zero zero h k = a
+digits-all P a b c d zero (suc zero) h k = b
+digits-all P a b c d zero (suc (suc y)) h k = absurd (omega arith)
+digits-all P a b c d (suc zero) zero h k = c
+digits-all P a b c d (suc zero) (suc zero) h k = d
+digits-all P a b c d (suc zero) (suc (suc y)) h k = absurd (omega arith)
+digits-all P a b c d (suc (suc x)) y h k = absurd (omega arith)
+
+module _ (a b i : ℕ) where
+  pub has-and : has (bitAnd a b) i ≡ (has a i && has b i)
+  has-and =
+      ap (λ (x : ℕ). eqb x 1) (bit-and a b i) ∙ digits-all (λ x y. eqb (min x y) 1 ≡ (eqb x 1 && eqb y 1)) refl refl refl refl (bit a i) (bit b i) (bit-lt a i) (bit-lt b i)
+
+  pub has-or : has (bitOr a b) i ≡ (has a i || has b i)
+  has-or =
+      ap (λ (x : ℕ). eqb x 1) (bit-or a b i) ∙ digits-all (λ x y. eqb (max x y) 1 ≡ (eqb x 1 || eqb y 1)) refl refl refl refl (bit a i) (bit b i) (bit-lt a i) (bit-lt b i)
+
+  pub has-without : has (without a b) i ≡ (has a i && not (has b i))
+  has-without =
+      ap (λ (x : ℕ). eqb x 1) (bit-without a b i)
+      ∙ digits-all (λ x y. eqb (x - y) 1 ≡ (eqb x 1 && not (eqb y 1))) refl refl refl refl (bit a i) (bit b i) (bit-lt a i) (bit-lt b i)
+
+module _ (m i : ℕ) where
+  pub has-gained : has (gain m i) i ≡ true
+  has-gained = ap (λ (x : ℕ). eqb x 1) (gain-same m i)
+
+  pub has-lost : has (lose m i) i ≡ false
+  has-lost = ap (λ (x : ℕ). eqb x 1) (lose-same m i)
+
+  module _ (j : ℕ) (h : i ≡ j → ⊥) where
+    pub has-gain-other : has (gain m i) j ≡ has m j
+    has-gain-other = ap (λ (x : ℕ). eqb x 1) (gain-other m i j h)
+
+    pub has-lose-other : has (lose m i) j ≡ has m j
+    has-lose-other = ap (λ (x : ℕ). eqb x 1) (lose-other m i j h)
+
 -- ---- the lowest set bit
+
+trailing-clear : (w m i : ℕ) → i < trailingZeros w m → bit m i ≡ 0
+unfolding trailingZeros
+trailing-clear zero m i h = absurd (not-suc-le-zero h)
+trailing-clear (suc w) m i h = go (m % 2) i refl h (λ i l. trailing-clear w (m / 2) i l)
+  where
+    go : (r i : ℕ) → m % 2 ≡ r → i < under r (trailingZeros w (m / 2)) → ((i : ℕ) → i < trailingZeros w (m / 2) → bit (m / 2) i ≡ 0) → bit m i ≡ 0
+    go zero zero e h below = bit-zero m ∙ e
+    go zero (suc i) e h below = bit-suc m i ∙ below i (le-of-suc-le-suc h)
+    go (suc r) i e h below = absurd (not-suc-le-zero h)
+
+pub below-lowest : (m i : ℕ) → i < lowest m → has m i ≡ false
+unfolding lowest
+below-lowest m i h = ap (λ (x : ℕ). eqb x 1) (trailing-clear 64 m i h)
 
 trailing-set : (w m : ℕ) → 0 < m → m < 2 ^ w → bit m (trailingZeros w m) ≡ 1
 unfolding trailingZeros

@@ -1,5 +1,5 @@
 -- The field of a number, range by range, and what a device holds under a number. Assumes nothing.
-use mathlib.Core.Bool.{Bool, true, false}
+use mathlib.Core.Bool.{Bool, true, false, cond}
 use mathlib.Core.List.{List, [], _∷_}
 use mathlib.Core.Option.{Option, none, some}
 use mathlib.Core.Path.{_≡_, refl, sym, ap, _∙_, subst}
@@ -10,7 +10,7 @@ use borrow.Author.Tests.{lt-ltb, le-ltb, ltb-true, ltb-false}
 use lib.Dec.{ltb}
 use lib.ListN.{getD, length, List·getD-eq-default}
 use Rattle.rules.specs.State.{Device}
-use Rattle.rules.specs.Act.{Field, SCALAR, BUSY, MAJORS, PENDING, SOURCE, TAKEN}
+use Rattle.rules.specs.Act.{Field, SCALAR, BUSY, MAJORS, PENDING, SOURCE, TAKEN, PRIORITY}
 use Rattle.rules.specs.Scalars.{scalarBits}
 use Rattle.rules.specs.Fields.{joined, fieldsOf, fieldAt, ofController, holds}
 use Rattle.rules.proofs.PartLaws.{Within}
@@ -18,20 +18,20 @@ use Rattle.rules.proofs.FieldLaws.{Sound, within, bitParts, fieldBits, 
 
 -- ---- range by range
 
-module _ (n : ℕ) where
-  pub at-scalar : n < length scalarBits → fieldAt n ≡ some (SCALAR n)
+module _ (chip : Bool) (n : ℕ) where
+  pub at-scalar : n < length scalarBits → fieldAt chip n ≡ some (SCALAR n)
   unfolding fieldAt
   at-scalar h = rw (lt-ltb n (length scalarBits) h)
 
-  pub at-gap : length scalarBits ≤ n → n < 16 → fieldAt n ≡ none
+  pub at-gap : length scalarBits ≤ n → n < 16 → fieldAt chip n ≡ none
   unfolding fieldAt
   at-gap h k = rw (le-ltb n (length scalarBits) h, lt-ltb n 16 k)
 
-  pub at-own : 16 ≤ n → n < 28 → fieldAt n ≡ some (ofController ((n - 16) % 4) ((n - 16) / 4))
+  pub at-own : 16 ≤ n → n < 28 → fieldAt chip n ≡ some (ofController ((n - 16) % 4) ((n - 16) / 4))
   unfolding fieldAt
   at-own h k = rw (le-ltb n (length scalarBits) (omega arith), le-ltb n 16 h, lt-ltb n 28 k)
 
-  pub at-gap-2 : 28 ≤ n → n < 64 → fieldAt n ≡ none
+  pub at-gap-2 : 28 ≤ n → n < 64 → fieldAt chip n ≡ none
   unfolding fieldAt
   at-gap-2 h k = rw (le-ltb n (length scalarBits) (omega arith), le-ltb n 16 (omega arith), le-ltb n 28 h, lt-ltb n 64 k)
 
@@ -39,15 +39,15 @@ module _ (n : ℕ) where
   past-64 : 64 ≤ n → (ltb n (length scalarBits) ≡ false) × (ltb n 16 ≡ false) × (ltb n 28 ≡ false) × (ltb n 64 ≡ false)
   past-64 h = (le-ltb n (length scalarBits) (omega arith), le-ltb n 16 (omega arith), le-ltb n 28 (omega arith), le-ltb n 64 h)
 
-  pub at-busy : 64 ≤ n → n < 128 → fieldAt n ≡ some (BUSY (n - 64))
+  pub at-busy : 64 ≤ n → n < 128 → fieldAt chip n ≡ some (BUSY (n - 64))
   unfolding fieldAt
   at-busy h k = let p = past-64 h in rw (p .0, p .1, p .2, p .3, lt-ltb n 128 k)
 
-  pub at-majors : 128 ≤ n → n < 192 → fieldAt n ≡ some (MAJORS (n - 128))
+  pub at-majors : 128 ≤ n → n < 192 → fieldAt chip n ≡ some (MAJORS (n - 128))
   unfolding fieldAt
   at-majors h k = let p = past-64 (omega arith) in rw (p .0, p .1, p .2, p .3, le-ltb n 128 h, lt-ltb n 192 k)
 
-  pub at-pending : 192 ≤ n → n < 256 → fieldAt n ≡ some (PENDING (n - 192))
+  pub at-pending : 192 ≤ n → n < 256 → fieldAt chip n ≡ some (PENDING (n - 192))
   unfolding fieldAt
   at-pending h k = let p = past-64 (omega arith) in rw (p .0, p .1, p .2, p .3, le-ltb n 128 (omega arith), le-ltb n 192 h, lt-ltb n 256 k)
 
@@ -55,63 +55,77 @@ module _ (n : ℕ) where
   past-256 : 256 ≤ n → (ltb n 128 ≡ false) × (ltb n 192 ≡ false) × (ltb n 256 ≡ false)
   past-256 h = (le-ltb n 128 (omega arith), le-ltb n 192 (omega arith), le-ltb n 256 h)
 
-  pub at-source : 256 ≤ n → n < 448 → fieldAt n ≡ some (SOURCE ((n - 256) / 64) ((n - 256) % 64))
+  pub at-source : 256 ≤ n → n < 448 → fieldAt chip n ≡ some (SOURCE ((n - 256) / 64) ((n - 256) % 64))
   unfolding fieldAt
   at-source h k =
       let p = past-64 (omega arith) in
       let q = past-256 h in
       rw (p .0, p .1, p .2, p .3, q .0, q .1, q .2, lt-ltb n 448 k)
 
-  pub at-gap-3 : 448 ≤ n → n < 576 → fieldAt n ≡ none
+  pub at-gap-3 : 448 ≤ n → n < 576 → fieldAt chip n ≡ none
   unfolding fieldAt
   at-gap-3 h k =
       let p = past-64 (omega arith) in
       let q = past-256 (omega arith) in
       rw (p .0, p .1, p .2, p .3, q .0, q .1, q .2, le-ltb n 448 h, lt-ltb n 576 k)
 
-  pub at-taken : 576 ≤ n → n < 768 → fieldAt n ≡ some (TAKEN (n - 576))
+  pub at-taken : 576 ≤ n → n < 768 → fieldAt chip n ≡ some (TAKEN (n - 576))
   unfolding fieldAt
   at-taken h k =
       let p = past-64 (omega arith) in
       let q = past-256 (omega arith) in
       rw (p .0, p .1, p .2, p .3, q .0, q .1, q .2, le-ltb n 448 (omega arith), le-ltb n 576 h, lt-ltb n 768 k)
 
-  pub at-none : 768 ≤ n → fieldAt n ≡ none
+  -- from 768 on: past three more
+  past-768 : 768 ≤ n → (ltb n 448 ≡ false) × (ltb n 576 ≡ false) × (ltb n 768 ≡ false)
+  past-768 h = (le-ltb n 448 (omega arith), le-ltb n 576 (omega arith), le-ltb n 768 h)
+
+  -- the chip's own
+  pub at-priority : 768 ≤ n → n < 832 → fieldAt chip n ≡ cond chip (some (PRIORITY (n - 768))) none
+  unfolding fieldAt
+  at-priority h k =
+      let p = past-64 (omega arith) in
+      let q = past-256 (omega arith) in
+      let r = past-768 h in
+      rw (p .0, p .1, p .2, p .3, q .0, q .1, q .2, r .0, r .1, r .2, lt-ltb n 832 k)
+
+  pub at-none : 832 ≤ n → fieldAt chip n ≡ none
   unfolding fieldAt
   at-none h =
       let p = past-64 (omega arith) in
       let q = past-256 (omega arith) in
-      rw (p .0, p .1, p .2, p .3, q .0, q .1, q .2, le-ltb n 448 (omega arith), le-ltb n 576 (omega arith), le-ltb n 768 h)
+      let r = past-768 (omega arith) in
+      rw (p .0, p .1, p .2, p .3, q .0, q .1, q .2, r .0, r .1, r .2, le-ltb n 832 h)
 
 -- ---- what stands at each number
 
-named-at : (k : ℕ) (bs : List ℕ) → AllNamed k bs → (n : ℕ) → n < length bs → Agrees (k + n) (getD bs n 0) (fieldAt (k + n))
-named-at k [] a n h = absurd (not-suc-le-zero h)
-named-at k (b ∷ bs) a zero h = rw add-zero (a .0)
-named-at k (b ∷ bs) a (suc n) h = rw (add-suc, ← suc-add) (named-at (suc k) bs (a .1) n (le-of-suc-le-suc h))
+named-at : (chip : Bool) (k : ℕ) (bs : List ℕ) → AllNamed chip k bs → (n : ℕ) → n < length bs → Agrees chip (k + n) (getD bs n 0) (fieldAt chip (k + n))
+named-at chip k [] a n h = absurd (not-suc-le-zero h)
+named-at chip k (b ∷ bs) a zero h = rw add-zero (a .0)
+named-at chip k (b ∷ bs) a (suc n) h = rw (add-suc, ← suc-add) (named-at chip (suc k) bs (a .1) n (le-of-suc-le-suc h))
 
-pub agrees-at : (n : ℕ) → n < 768 → Agrees n (getD fieldBits n 0) (fieldAt n)
-agrees-at n h = rw zero-add at (named-at 0 fieldBits all-named n (unfold fieldBits bitParts joined in h))
+pub agrees-at : (chip : Bool) (n : ℕ) → n < 832 → Agrees chip n (getD (fieldBits chip) n 0) (fieldAt chip n)
+agrees-at chip n h = rw zero-add at (named-at chip 0 (fieldBits chip) (all-named chip) n (unfold fieldBits bitParts joined in h))
 
 none-some : {f : Field} → _≡_ {A = Option Field} none (some f) → ⊥
 none-some e = let z : _≡_ {A = ℕ} 0 1 = cc in omega arith
 
-module _ (n : ℕ) where
+module _ (chip : Bool) (n : ℕ) where
   -- a number that leads to a field is the field's
-  pub field-named : (f : Field) → fieldAt n ≡ some f → Named n (getD fieldBits n 0) f
-  field-named f e = by (ltb n 768) refl
+  pub field-named : (f : Field) → fieldAt chip n ≡ some f → Named chip n (getD (fieldBits chip) n 0) f
+  field-named f e = by (ltb n 832) refl
     where
-      by : (t : Bool) → ltb n 768 ≡ t → Named n (getD fieldBits n 0) f
-      by true q = subst (Agrees n (getD fieldBits n 0)) e (agrees-at n (ltb-true n 768 q))
-      by false q = absurd (none-some (sym (at-none n (ltb-false n 768 q)) ∙ e))
+      by : (t : Bool) → ltb n 832 ≡ t → Named chip n (getD (fieldBits chip) n 0) f
+      by true q = subst (Agrees chip n (getD (fieldBits chip) n 0)) e (agrees-at chip n (ltb-true n 832 q))
+      by false q = absurd (none-some (sym (at-none chip n (ltb-false n 832 q)) ∙ e))
 
   -- where there is no field there are no bits
-  no-bits : fieldAt n ≡ none → getD fieldBits n 0 ≡ 0
-  no-bits e = by (ltb n 768) refl
+  no-bits : fieldAt chip n ≡ none → getD (fieldBits chip) n 0 ≡ 0
+  no-bits e = by (ltb n 832) refl
     where
-      by : (t : Bool) → ltb n 768 ≡ t → getD fieldBits n 0 ≡ 0
-      by true q = subst (Agrees n (getD fieldBits n 0)) e (agrees-at n (ltb-true n 768 q))
-      by false q = List·getD-eq-default fieldBits 0 (unfold fieldBits bitParts joined in ltb-false n 768 q)
+      by : (t : Bool) → ltb n 832 ≡ t → getD (fieldBits chip) n 0 ≡ 0
+      by true q = subst (Agrees chip n (getD (fieldBits chip) n 0)) e (agrees-at chip n (ltb-true n 832 q))
+      by false q = List·getD-eq-default (fieldBits chip) 0 (unfold fieldBits bitParts joined in ltb-false n 832 q)
 
 -- ---- what a device holds there
 
@@ -123,10 +137,10 @@ in-no-bits (b ∷ bs) (x ∷ xs) zero w e = let h = w .0 in omega (arith, rw e a
 in-no-bits (b ∷ bs) (x ∷ xs) (suc n) w e = in-no-bits bs xs n (w .1) e
 
 module _ (d : Device) (s : Sound d) (n : ℕ) where
-  pub number-holds : (f : Field) → fieldAt n ≡ some f → getD (fieldsOf d) n 0 ≡ holds f d
+  pub number-holds : (f : Field) → fieldAt (d .chip) n ≡ some f → getD (fieldsOf d) n 0 ≡ holds f d
   number-holds f e =
-      let p = field-named n f e in
+      let p = field-named (d .chip) n f e in
       ap (λ (k : ℕ). getD (fieldsOf d) k 0) (sym (p .number)) ∙ holds-number f d s (p .real)
 
-  pub number-empty : fieldAt n ≡ none → getD (fieldsOf d) n 0 ≡ 0
-  number-empty e = in-no-bits fieldBits (fieldsOf d) n (within d s) (no-bits n e)
+  pub number-empty : fieldAt (d .chip) n ≡ none → getD (fieldsOf d) n 0 ≡ 0
+  number-empty e = in-no-bits (fieldBits (d .chip)) (fieldsOf d) n (within d s) (no-bits (d .chip) n e)

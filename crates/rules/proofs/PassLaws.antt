@@ -7,7 +7,7 @@ use mathlib.Core.Path.{_≡_, refl, sym, ap, _∙_, subst⁻¹}
 use Prim.Native.Nat.{ℕ, zero, suc, _+_, _-_, _*_, _/_, _%_, _^_, _<_, _≤_}
 use native.Mathlib.Nat.{mod-lt}
 use native.Mathlib.Omega.{arith}
-use lib.Dec.{eqb, ltb, lit<}
+use lib.Dec.{eqb, ltb, lit<, lit≤}
 use lib.ListN.{getD, length}
 use lib.Seq.{getD-set-same}
 use borrow.Author.Tests.{ltb-true, ltb-false, eq-eqb, ne-eqb, eqb-true, eqb-false, not-true}
@@ -261,6 +261,14 @@ module _ {base : ℕ} {lent : Lent} where
 unfoldable pub citerAt : ℕ → Device → ℕ
 citerAt ch d = number (part (d .table) (32 * ch + 0x14) 2)
 
+-- its `csr`
+unfoldable pub csrAt : ℕ → Device → ℕ
+csrAt ch d = number (part (d .table) (32 * ch + 0x1E) 2)
+
+-- a descriptor says what stands there
+abbrev pub Said : ℕ → World → Tcd → Type 0
+Said ch u t = (t .citer ≡ citerAt ch (u .now .dev)) × (t .csr ≡ csrAt ch (u .now .dev))
+
 unfoldable pub countAt : ℕ → Device → ℕ
 countAt ch d = countOf (citerAt ch d)
 
@@ -286,7 +294,7 @@ recount-law raw n h l = either (linked raw) refl l
         let gone : linked n ≡ false = ne-eqb (n / 2 ^ 15 % 2) 1 (omega arith) in
         (rw gone (omega arith), omega arith)
 
--- ---- what leaves a channel's majors alone, and what leaves its count alone
+-- ---- what leaves a channel's majors alone, and what leaves bytes of the table alone
 
 unfoldable pub sparingMajors : ℕ → Rights
 sparingMajors ch = record {
@@ -296,27 +304,28 @@ sparingMajors ch = record {
   may-put = λ f. (v : ℕ) (d : Device) → holds (MAJORS ch) (withField f v d) ≡ holds (MAJORS ch) d;
 }
 
--- before or behind the channel's `citer`
-abbrev pub Beside : ℕ → Space → ℕ → ℕ → Type 0
-Beside ch window a n = Unit {0}
-Beside ch table a n = (a + n ≤ 32 * ch + 0x14) ⊎ (32 * ch + 0x16 ≤ a)
+-- before or behind k bytes of the table from i on
+abbrev pub Beside : ℕ → ℕ → Space → ℕ → ℕ → Type 0
+Beside i k window a n = Unit {0}
+Beside i k table a n = (a + n ≤ i) ⊎ (i + k ≤ a)
 
--- as is byte 0x1F of another channel
-link-beside : (ch to : ℕ) → (to ≡ ch → ⊥) → Beside ch table (32 * to + 0x1F) 1
-link-beside ch to f = side (ltb to ch) refl
+-- bytes of two channels are beside each other
+pub others-beside : (c ch o k a n : ℕ) → (c ≡ ch → ⊥) → o + k ≤ 32 → 32 * ch ≤ a → a + n ≤ 32 * ch + 32 → Beside (32 * c + o) k table a n
+others-beside c ch o k a n f h l b = side (ltb ch c) refl
   where
-    side : (b : Bool) → ltb to ch ≡ b → Beside ch table (32 * to + 0x1F) 1
-    side true e = inl (omega (arith, ltb-true to ch e))
-    side false e = inr (omega (arith, ltb-false to ch e))
+    side : (t : Bool) → ltb ch c ≡ t → Beside (32 * c + o) k table a n
+    side true e = inl (omega (arith, ltb-true ch c e))
+    side false e = inr (omega (arith, ltb-false ch c e, f))
 
-unfoldable pub sparingCount : ℕ → Rights
-sparingCount ch = record { may-stage = λ n. Unit {0}; may-fetch = λ sp a n. Unit {0}; may-store = Beside ch; may-put = λ f. Unit {0} }
+unfoldable pub sparing : ℕ → ℕ → Rights
+sparing i k = record { may-stage = λ n. Unit {0}; may-fetch = λ sp a n. Unit {0}; may-store = Beside i k; may-put = λ f. Unit {0} }
 
 abbrev pub Majors : ℕ → ℕ → World → Type 0
 Majors ch x u = holds (MAJORS ch) (u .now .dev) ≡ x
 
-abbrev pub Citer : ℕ → ℕ → World → Type 0
-Citer ch x u = citerAt ch (u .now .dev) ≡ x
+-- the number that stands there
+abbrev pub Stands : ℕ → ℕ → ℕ → World → Type 0
+Stands i k x u = number (part (u .now .dev .table) i k) ≡ x
 
 module _ (base ch : ℕ) where
   majors-unstored : (sp : Space) (a n v : ℕ) (u : World) → holds (MAJORS ch) (recorded base sp a n v u .now .dev) ≡ holds (MAJORS ch) (u .now .dev)
@@ -324,25 +333,26 @@ module _ (base ch : ℕ) where
   majors-unstored window a n v u = refl
   majors-unstored table a n v u = refl
 
-  citer-unstored : (sp : Space) (a n v : ℕ) (u : World) → Beside ch sp a n → citerAt ch (recorded base sp a n v u .now .dev) ≡ citerAt ch (u .now .dev)
-  unfolding recorded stored withBytesOf bytesOf indexOf citerAt
-  citer-unstored window a n v u b = refl
-  citer-unstored table a n v u b =
+module _ (base i k : ℕ) where
+  unstored : (sp : Space) (a n v : ℕ) (u : World) → Beside i k sp a n
+      → number (part (recorded base sp a n v u .now .dev .table) i k) ≡ number (part (u .now .dev .table) i k)
+  unfolding recorded stored withBytesOf bytesOf indexOf
+  unstored window a n v u b = refl
+  unstored table a n v u b =
       ap number
       (⊎-elim
-      (λ h. part-splice-above (u .now .dev .table) a (bytes n v) (32 * ch + 0x14) 2 (omega (arith, length-bytes n v)))
-      (λ h. part-splice-below (u .now .dev .table) a (bytes n v) (32 * ch + 0x14) 2 (omega arith))
+      (λ h. part-splice-above (u .now .dev .table) a (bytes n v) i k (omega (arith, length-bytes n v)))
+      (λ h. part-splice-below (u .now .dev .table) a (bytes n v) i k (omega arith))
       b)
 
   -- stored there, it is there
-  citer-stored : (x : ℕ) (u : World) → ch < 64 → x < 2 ^ 16 → Proper (u .now .dev) → citerAt ch (recorded base table (32 * ch + 0x14) 2 x u .now .dev) ≡ x
-  unfolding recorded stored withBytesOf bytesOf indexOf citerAt
-  citer-stored x u h l p =
+  stored-stands : (x : ℕ) (u : World) → i + k ≤ 2048 → x < 256 ^ k → Proper (u .now .dev) → Stands i k x (recorded base table i k x u)
+  unfolding recorded stored withBytesOf bytesOf indexOf
+  stored-stands x u h l p =
       let t = u .now .dev .table in
-      let i = 32 * ch + 0x14 in
-      ap (λ (k : ℕ). number (part (splice t i (bytes 2 x)) i k)) (sym (length-bytes 2 x))
-      ∙ ap number (part-splice-same t i (bytes 2 x) (omega (arith, length-bytes 2 x, p .size)))
-      ∙ value-fits 2 l
+      ap (λ (n : ℕ). number (part (splice t i (bytes k x)) i n)) (sym (length-bytes k x))
+      ∙ ap number (part-splice-same t i (bytes k x) (omega (arith, length-bytes k x, p .size)))
+      ∙ value-fits k l
 
 module _ {base : ℕ} {lent : Lent} where
   pub majors-kept : {A : Type 0} (ch x : ℕ) {m : Act A} → Each (sparingMajors ch) m → (u : World) → Properly (Majors ch x) u
@@ -353,14 +363,14 @@ module _ {base : ℕ} {lent : Lent} where
       (each-keeps base lent (sparingMajors ch) (Majors ch x)
       (λ sp a n v w _ _ _ h. majors-unstored base ch sp a n v w ∙ h) (λ f v w _ s h. s _ (w .now .dev) ∙ h) e u p)
 
-  pub count-kept : {A : Type 0} (ch x : ℕ) {m : Act A} → Each (sparingCount ch) m → (u : World) → Properly (Citer ch x) u
-      → Leads base lent u m (λ _ v. Properly (Citer ch x) v)
-  unfolding sparingCount withDevice citerAt
-  count-kept ch x {m} e u p =
+  pub stands-kept : {A : Type 0} (i k x : ℕ) {m : Act A} → Each (sparing i k) m → (u : World) → Properly (Stands i k x) u
+      → Leads base lent u m (λ _ v. Properly (Stands i k x) v)
+  unfolding sparing withDevice
+  stands-kept i k x {m} e u p =
       leads-end m u
-      (each-keeps base lent (sparingCount ch) (Citer ch x)
-      (λ sp a n v w _ s _ h. citer-unstored base ch sp a n v w s ∙ h)
-      (λ f v w q _ h. ap (λ t. number (part t (32 * ch + 0x14) 2)) (put-law f _ (w .now .dev) (q .sound .three) .table) ∙ h)
+      (each-keeps base lent (sparing i k) (Stands i k x)
+      (λ sp a n v w _ s _ h. unstored base i k sp a n v w s ∙ h)
+      (λ f v w q _ h. ap (λ t. number (part t i k)) (put-law f _ (w .now .dev) (q .sound .three) .table) ∙ h)
       e u p)
 
 -- ---- majors and count after a pass
@@ -395,26 +405,40 @@ module _ {base : ℕ} {lent : Lent} (ch : ℕ) (h : ch < 64) where
         link-each ch (has (t .csr) MAJORELINK) (t .csr / 2 ^ 8 % 2 ^ 6) tt (λ _. tt) (λ v d. refl))
       w o
 
-  -- the count stored is there after the four stores
+  -- what is stored is there
+  leads-stands : (i k x : ℕ) (u : World) → i + k ≤ 2048 → x < 256 ^ k → Proper (u .now .dev) → Leads base lent u (store table i k x) (λ _ v. Properly (Stands i k x) v)
+  leads-stands i k x u l f p =
+      leads-map (leads-store table i k x u) λ _ v q. subst⁻¹ (Properly (Stands i k x)) (q .0) (proper-store base u p table i k x, stored-stands base i k x u l f p)
+
+  -- the count stored is there after the four stores, and so is `csr`
   stores-count : (s d citer csr : ℕ) (u : World) → citer < 2 ^ 16 → Proper (u .now .dev)
-      → Leads base lent u (minorStores ch s d citer csr) (λ _ v. Properly (Citer ch citer) v)
-  unfolding minorStores sparingCount
+      → Leads base lent u (minorStores ch s d citer csr) (λ _ v. Properly (Stands (32 * ch + 0x14) 2 citer) v)
+  unfolding minorStores sparing
   stores-count s d citer csr u l p =
       leads-then (proper-kept (store _ _ _ _) u p) λ _ v q.
       leads-then (proper-kept (store _ _ _ _) v q) λ _ w o.
-      leads-then (leads-store table (32 * ch + 0x14) 2 citer w) λ _ x k.
-      count-kept ch citer (each-store _ _ _ _ (inr (omega arith))) x
-      (subst⁻¹ (Properly (Citer ch citer)) (k .0) (proper-store base w o table _ 2 citer, citer-stored base ch citer w h l o))
+      leads-then (leads-stands (32 * ch + 0x14) 2 citer w (omega arith) l o) λ _ x k.
+      stands-kept (32 * ch + 0x14) 2 citer (each-store _ _ _ _ (inr (omega arith))) x k
+
+  pub stores-csr : (s d citer csr : ℕ) (u : World) → csr < 2 ^ 16 → Proper (u .now .dev)
+      → Leads base lent u (minorStores ch s d citer csr) (λ _ v. Properly (Stands (32 * ch + 0x1E) 2 csr) v)
+  unfolding minorStores
+  stores-csr s d citer csr u l p =
+      leads-then (proper-kept (store _ _ _ _) u p) λ _ v q.
+      leads-then (proper-kept (store _ _ _ _) v q) λ _ w o.
+      leads-then (proper-kept (store _ _ _ _) w o) λ _ x k.
+      leads-stands (32 * ch + 0x1E) 2 csr x (omega arith) l k
 
   -- what spares both spares each of them
-  both-kept : {A : Type 0} (c x : ℕ) {m : Act A} → Each (sparingCount ch) m → Each (sparingMajors ch) m → (u : World)
-      → Properly (Citer ch c) u × Properly (Majors ch x) u → Leads base lent u m (λ _ v. Properly (Citer ch c) v × Properly (Majors ch x) v)
-  both-kept c x e f u p = leads-both (count-kept ch c e u (p .0)) (majors-kept ch x f u (p .1))
+  both-kept : {A : Type 0} (c x : ℕ) {m : Act A} → Each (sparing (32 * ch + 0x14) 2) m → Each (sparingMajors ch) m → (u : World)
+      → Properly (Stands (32 * ch + 0x14) 2 c) u × Properly (Majors ch x) u
+      → Leads base lent u m (λ _ v. Properly (Stands (32 * ch + 0x14) 2 c) v × Properly (Majors ch x) v)
+  both-kept c x e f u p = leads-both (stands-kept (32 * ch + 0x14) 2 c e u (p .0)) (majors-kept ch x f u (p .1))
 
   -- the end of a pass: its stores, INTHALF, then the major end or the link
   minor-counts : (t : Tcd) (s d x : ℕ) (u : World) → t .citer < 2 ^ 16 → 0 < countOf (t .citer) → Properly (Majors ch x) u
       → Leads base lent u (minorEnd ch t s d) (λ _ v. Counted ch (countOf (t .citer)) x (v .now .dev))
-  unfolding minorEnd sparingMajors sparingCount countAt
+  unfolding minorEnd sparingMajors sparing countAt citerAt
   minor-counts t s d x u l c p =
       let n = countOf (t .citer) - 1 in
       let r = recount-law (t .citer) n l (omega arith) in
@@ -423,18 +447,18 @@ module _ {base : ℕ} {lent : Lent} (ch : ℕ) (h : ch < 64) where
       leads-cond (eqb n 0)
       (λ e. leads-map (majors-rise x w (o .1)) λ _ y k. ended (omega (arith, eqb-true n 0 e)) (k .1))
       (λ _.
-      leads-map (both-kept _ x (link-each ch _ _ tt (λ f. link-beside ch _ f) tt) (link-each ch _ _ tt (λ _. tt) (λ v d. refl)) w o) λ _ y k.
+      leads-map (both-kept _ x (link-each ch _ _ tt (λ f. others-beside ch _ 0x14 2 _ 1 (λ e. f (sym e)) (lit≤ tt) (omega arith) (omega arith)) tt) (link-each ch _ _ tt (λ _. tt) (λ v d. refl)) w o) λ _ y k.
       fewer (rw (k .0 .1) (ap (λ (m : ℕ). m + 1) (r .0) ∙ omega arith)) (k .1 .1))
 
-  descriptor-citer : (u : World) → Leads base lent u (descriptor ch) (λ t v. t .citer ≡ citerAt ch (u .now .dev))
-  unfolding descriptor go acts._>>=_ fetch tcdOf fetched bytesOf indexOf citerAt
-  descriptor-citer u = record { answered = made-or (there base table (32 * ch) 32 (u .now)) }
+  pub descriptor-said : (u : World) → Leads base lent u (descriptor ch) (λ t v. Said ch u t)
+  unfolding descriptor go acts._>>=_ fetch tcdOf fetched bytesOf indexOf citerAt csrAt
+  descriptor-said u = record { answered = made-or (there base table (32 * ch) 32 (u .now)) }
     where
       t : List ℕ
       t = part (u .now .dev .table) (32 * ch) 32
 
-      made-or : (b : Bool) → IfAnswered {A = Tcd} (λ t v. t .citer ≡ citerAt ch (u .now .dev)) (elim b [ true ↦ ok (tcdOf t) u | false ↦ no 9 u ])
-      made-or true = ap number (part-part (u .now .dev .table) (32 * ch) 32 0x14 2 (omega arith))
+      made-or : (b : Bool) → IfAnswered {A = Tcd} (λ t v. Said ch u t) (elim b [ true ↦ ok (tcdOf t) u | false ↦ no 9 u ])
+      made-or true = (ap number (part-part (u .now .dev .table) (32 * ch) 32 0x14 2 (omega arith)), ap number (part-part (u .now .dev .table) (32 * ch) 32 0x1E 2 (omega arith)))
       made-or false = tt
 
   -- a pass that answers yes counts one
@@ -445,11 +469,11 @@ module _ {base : ℕ} {lent : Lent} (ch : ℕ) (h : ch < 64) where
       let x = holds (MAJORS ch) (u .now .dev) in
       let c = citerAt ch (u .now .dev) in
       let fits : c < 2 ^ 16 = part-lt 2 (u .now .dev .table) (32 * ch + 0x14) 2 (p .sound .table-bytes) (omega arith) in
-      leads-bind (leads-both (descriptor-citer u) (majors-kept ch x (descriptor-each ch tt) u (p, refl))) λ t v q.
+      leads-bind (leads-both (descriptor-said u) (majors-kept ch x (descriptor-each ch tt) u (p, refl))) λ t v q.
       leads-bind (majors-kept ch x (each-ask CR) v (q .1)) λ cr w o.
       leads-cond (eqb (countOf (t .citer)) 0)
       (λ _. leads-done (λ e. absurd (false≢true e)))
       (λ e.
       leads-bind (majors-kept ch x (transfer-each (record { stage-any = λ n. tt; fetch-unit = λ a n l. tt; store-unit = λ a n l. tt }) t _) w o) λ sd y k.
-      leads-then (minor-counts t _ _ x y (omega (arith, q .0)) (omega (arith, eqb-false (countOf (t .citer)) 0 e)) k) λ _ z i.
-      leads-done (λ _. rw (q .0) at i))
+      leads-then (minor-counts t _ _ x y (omega (arith, q .0 .0)) (omega (arith, eqb-false (countOf (t .citer)) 0 e)) k) λ _ z i.
+      leads-done (λ _. rw (q .0 .0) at i))

@@ -3,7 +3,7 @@
 use mathlib.Core.Bool.{Bool, true, false, not, _||_}
 use mathlib.Core.List.{List, [], _∷_}
 use mathlib.Core.Path.{_≡_, refl, sym, ap, _∙_, subst}
-use Prim.Native.Nat.{ℕ, zero, suc, _-_, _%_, _^_, _≤_}
+use Prim.Native.Nat.{ℕ, zero, suc, _-_, _≤_}
 use native.Mathlib.Omega.{arith}
 use borrow.Author.Tests.{eqb-true, eqb-false}
 use lib.Dec.{eqb, leb, ltb}
@@ -11,12 +11,11 @@ use lib.ListN.{length}
 use Rattle.rules.specs.Act.{Act, Space, window, table, PENDING}
 use Rattle.rules.specs.Calls.{Asked, write, inputs, pending, run, service, ack, addPending, actOf, badSize, isNone, badWindow, badJournal, badTime, badSum, check, wrong, first, barred, stops, wrongBack, wrongRead, numberTold, stagingAfter, worldOf, toldAfter, after, heardNothing, afterBack, readUnless, afterRead}
 use Rattle.rules.specs.Carry.{World, Out, ok, no, recorded, After, made, unmade, lastLines, written, cleared, leave, perform, go, Lent, lending}
-use Rattle.rules.specs.Fields.{bitsOf, holds, settingOf}
+use Rattle.rules.specs.Fields.{holds, settingOf}
 use Rattle.rules.specs.Registers.{inBlocks, blockOf, offsetOf, writeAt, readAt, pastTable, pastWord}
 use Rattle.rules.specs.TakeBack.{takeBack}
 use Rattle.rules.specs.State.{Device}
 use Rattle.rules.specs.declared.Heard.{Heard}
-use Rattle.rules.specs.declared.Heard.the-variants as Heard
 use Rattle.rules.proofs.Bench.{readNumber}
 use Rattle.rules.proofs.CallLaws.{not-stopped, either-way}
 use Rattle.rules.proofs.Each.{Rights, Each, at-done, at-endless, at-stage, at-fetch, at-store, at-ask, at-put, at-look, each-change, Proper, proper-store, proper-put, fetched-length}
@@ -25,7 +24,7 @@ use Rattle.rules.proofs.Guards.{goBare, call-bare}
 use Rattle.rules.proofs.Lasts.{act-number, back-refused}
 use Rattle.rules.proofs.Arms.{write-each}
 use Rattle.rules.proofs.Pieces.{levelled-each, acknowledge-each, inputs-each}
-use Rattle.rules.proofs.Steps.{putting}
+use Rattle.rules.proofs.Steps.{cutting}
 
 -- ---- the numbers, 0 for accepted
 
@@ -82,7 +81,7 @@ module _ (base : ℕ) (lent : Lent) where
         | false ↦ refl
       ]
   aside-full (at-ask {f} q) u p = aside-full (q (holds f (u .now .dev)) (holds-fits f (u .now .dev) (p .sound))) u p
-  aside-full (at-put {f} {v} h q) u p = aside-full q (putting f (v % 2 ^ bitsOf f) u) (proper-put f v u p)
+  aside-full (at-put {f} {v} h q) u p = aside-full q (cutting f v u) (proper-put f v u p)
   aside-full (at-look {s} q) u p = aside-full (q (settingOf s (u .now .dev))) u p
 
 -- how an act ends, and its number

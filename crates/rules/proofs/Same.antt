@@ -1,4 +1,4 @@
--- Fields, table and the setting determine the device. Assumes nothing.
+-- Fields, table and the settings determine the device. Assumes nothing.
 use mathlib.Core.Path.{_≡_, refl, sym, ap, _∙_}
 use mathlib.Core.List.{List, []}
 use Prim.Native.Nat.{ℕ, zero, suc, _<_}
@@ -44,7 +44,7 @@ module _ (d e : Device) (s : Sound d) (t : Sound e) (same : fieldsOf d ≡ field
       (same-controller _ _ (number 8) (number 9) (number 10) (number 11) (part 8))
       i (omega (arith, s .three)))
 
-  pub device-same : d .table ≡ e .table → d .ignore ≡ e .ignore → d ≡ e
+  pub device-same : d .table ≡ e .table → d .ignore ≡ e .ignore → d .chip ≡ e .chip → d ≡ e
   unfolding partsOf ownOf
-  device-same p q =
-      rw (part 0, q, p, part 3, part 4, part 5, controllers-same, part 10) refl
+  device-same p q c =
+      rw (part 0, q, c, p, part 3, part 4, part 5, controllers-same, part 10, part 11) refl

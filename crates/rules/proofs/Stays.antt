@@ -1,34 +1,50 @@
--- What every call leaves of a device, accepted or refused, whatever it is given: the setting, and that a proper device is one. Assumes nothing.
-use mathlib.Core.Bool.{Bool, true, false, false≢true}
-use mathlib.Core.List.{List, []}
+-- What every call leaves of a device, accepted or refused, whatever it is given: the settings, and that a proper device is one. Assumes nothing.
+use mathlib.Core.Bool.{true, false, false≢true}
+use mathlib.Core.List.{List, [], _∷_}
 use mathlib.Core.Option.{Option, none, some}
-use mathlib.Core.Path.{_≡_, refl}
-use Prim.Native.Nat.{ℕ, zero, suc, _%_, _^_, _<_, _-_, _+_, _*_}
+use mathlib.Core.Path.{_≡_, refl, sym, _∙_, subst}
+use Prim.Native.Nat.{ℕ, zero, suc, _^_, _<_, _-_, _+_, _*_}
 use native.Mathlib.Nat.{mod-lt}
 use borrow.Author.Tests.{ltb-true}
 use lib.Dec.{eqb, leb}
 use lib.ListN.{length, take, drop}
 use lib.Pow.{pow-pos}
-use Rattle.rules.specs.Act.{Act, Space, window, table, Field, SCALAR, MASKS, FORCED, LINES, CONFIG, BUSY, MAJORS, PENDING, SOURCE, TAKEN}
+use Rattle.rules.specs.Act.{Act, Space, window, table, Field, Setting, IGNORE, CHIP}
 use Rattle.rules.specs.Bytes.{bytes, splice}
 use Rattle.rules.specs.Calls.{Asked, actOf, stops, wrongBack, deviceTold, worldOf, toldAfter, after, heardNothing, afterBack}
-use Rattle.rules.specs.Carry.{Machine, World, Out, ok, no, bytesOf, withBytesOf, withDevice, indexOf, stored, recorded, go, After, made, unmade, lastLines, written, cleared, leave, perform, undoRec, undo, Lent, lending}
-use Rattle.rules.specs.Fields.{bitsOf, withField, fieldAt, withSome, fitsSome}
+use Rattle.rules.specs.Carry.{Machine, World, Rec, stoodAt, stoodIn, Out, ok, no, bytesOf, withBytesOf, withDevice, indexOf, stored, recorded, go, After, made, unmade, lastLines, written, cleared, leave, perform, undoRec, undo, Lent, lending}
+use Rattle.rules.specs.Fields.{bitsIn, settingOf, withField, fieldAt, withSome, fitsSome}
 use Rattle.rules.specs.TakeBack.{marked, kind, width, place, value, soundField, soundKind, sound, allSound, recOf, decode, decodeAll, takeBack}
 use Rattle.rules.specs.With.{withTable}
 use Rattle.rules.specs.State.{Device}
 use Rattle.rules.specs.declared.Heard.{Heard}
-use Rattle.rules.specs.declared.Heard.the-variants as Heard
 use Rattle.rules.proofs.BoolLaws.{and-left, and-right}
 use Rattle.rules.proofs.CallLaws.{either-way}
 use Rattle.rules.proofs.Each.{Proper, proper-table, proper-field}
+use Rattle.rules.proofs.FieldLaws.{put-setting}
 use Rattle.rules.proofs.Keeps.{AtEnd, go-keeps}
 use Rattle.rules.proofs.Lasts.{Ending, BackEnds, none, damaged, taken, back-ends}
+
+-- ---- no record undone changes the mode
+undone-chip : (base : ℕ) (r : Rec) (m : Machine) → undoRec base r m .dev .chip ≡ m .dev .chip
+unfolding undoRec stored withBytesOf withDevice
+undone-chip base (stoodAt window a w v) m = refl
+undone-chip base (stoodAt table a w v) m = refl
+undone-chip base (stoodIn n v) m = by (fieldAt (m .dev .chip) n)
+  where
+    by : (o : Option Field) → withSome o v (m .dev) .chip ≡ m .dev .chip
+    by none = refl
+    by (some f) = put-setting CHIP f v (m .dev)
+
+undo-chip : (base : ℕ) (rs : List Rec) (m : Machine) → undo base rs m .dev .chip ≡ m .dev .chip
+unfolding undo
+undo-chip base [] m = refl
+undo-chip base (r ∷ rs) m = undone-chip base r (undo base rs m) ∙ undo-chip base rs m
 
 -- ---- what a store to the table and a field put leave, every call leaves
 
 module _ (P : Device → Type 0) (onTable : (i n v : ℕ) (d : Device) → P d → P (withTable d (splice (d .table) i (bytes n v))))
-    (onField : (f : Field) (v : ℕ) (d : Device) → v < 2 ^ bitsOf f → P d → P (withField f v d))
+    (onField : (f : Field) (v : ℕ) (d : Device) → v < 2 ^ bitsIn (d .chip) f → P d → P (withField f v d))
   where
     -- of the device that is there
     abbrev On : World → Type 0
@@ -44,7 +60,7 @@ module _ (P : Device → Type 0) (onTable : (i n v : ℕ) (d : Device) → P d �
     perform-stays base lent {A} m u p =
         left (go base lent m u)
         (go-keeps base lent On (λ sp a n v w _ _ _ q. stored-stays base sp a n v (w .now) q)
-        (λ f v w q. onField f (v % 2 ^ bitsOf f) (w .now .dev) (mod-lt v (pow-pos (bitsOf f))) q) m u p)
+        (λ f v w q. onField f _ (w .now .dev) (mod-lt v (pow-pos (bitsIn (w .now .dev .chip) f))) q) m u p)
       where
         left : (o : Out A) → AtEnd On o → Ending On (leave u o)
         left (no n v) q = p
@@ -56,24 +72,24 @@ module _ (P : Device → Type 0) (onTable : (i n v : ℕ) (d : Device) → P d �
             ]
 
     -- a sound record undone
-    field-stays : (o : Option Field) (v : ℕ) (d : Device) → fitsSome o v ≡ true → P d → P (withSome o v d)
+    field-stays : (o : Option Field) (v : ℕ) (d : Device) → fitsSome (d .chip) o v ≡ true → P d → P (withSome o v d)
     field-stays none v d e p = p
-    field-stays (some f) v d e p = onField f v d (ltb-true v (2 ^ bitsOf f) e) p
+    field-stays (some f) v d e p = onField f v d (ltb-true v (2 ^ bitsIn (d .chip) f) e) p
 
-    record-stays : (base : ℕ) (k w a v : ℕ) (m₀ m : Machine) → soundKind base m₀ k w a v ≡ true → P (m .dev) → P (undoRec base (recOf k w a v) m .dev)
+    record-stays : (base : ℕ) (k w a v : ℕ) (m₀ m : Machine) → m .dev .chip ≡ m₀ .dev .chip → soundKind base m₀ k w a v ≡ true → P (m .dev) → P (undoRec base (recOf k w a v) m .dev)
     unfolding soundKind soundField recOf undoRec withDevice
-    record-stays base zero w a v m₀ m e p = stored-stays base window a w v m p
-    record-stays base (suc zero) w a v m₀ m e p = stored-stays base table a w v m p
-    record-stays base (suc (suc zero)) w a v m₀ m e p = field-stays (fieldAt a) v (m .dev) (and-right (eqb w 8) _ e) p
-    record-stays base (suc (suc (suc k))) w a v m₀ m e p = absurd (false≢true e)
+    record-stays base zero w a v m₀ m c e p = stored-stays base window a w v m p
+    record-stays base (suc zero) w a v m₀ m c e p = stored-stays base table a w v m p
+    record-stays base (suc (suc zero)) w a v m₀ m c e p = field-stays (fieldAt (m .dev .chip) a) v (m .dev) (subst (λ x. fitsSome x (fieldAt x a) v ≡ true) (sym c) (and-right (eqb w 8) _ e)) p
+    record-stays base (suc (suc (suc k))) w a v m₀ m c e p = absurd (false≢true e)
 
-    undo-stays : (base i : ℕ) (l : List ℕ) (m₀ m : Machine) → allSound base m₀ i l ≡ true → P (m .dev) → P (undo base (decodeAll i l) m .dev)
+    undo-stays : (base i : ℕ) (l : List ℕ) (m₀ m : Machine) → m .dev .chip ≡ m₀ .dev .chip → allSound base m₀ i l ≡ true → P (m .dev) → P (undo base (decodeAll i l) m .dev)
     unfolding allSound decodeAll undo sound decode
-    undo-stays base zero l m₀ m e p = p
-    undo-stays base (suc i) l m₀ m e p =
+    undo-stays base zero l m₀ m c e p = p
+    undo-stays base (suc i) l m₀ m c e p =
         let r = take 16 l in
-        record-stays base (kind r) (width r) (place r) (value r) m₀ (undo base (decodeAll i (drop 16 l)) m)
-        (and-right (marked r) _ (and-left (sound base m₀ r) _ e)) (undo-stays base i (drop 16 l) m₀ m (and-right (sound base m₀ r) _ e) p)
+        record-stays base (kind r) (width r) (place r) (value r) m₀ (undo base (decodeAll i (drop 16 l)) m) (undo-chip base (decodeAll i (drop 16 l)) m ∙ c)
+        (and-right (marked r) _ (and-left (sound base m₀ r) _ e)) (undo-stays base i (drop 16 l) m₀ m c (and-right (sound base m₀ r) _ e) p)
 
     take-back-stays : (base : ℕ) (u : World) → P (u .now .dev) → Ending On (takeBack base u)
     take-back-stays base u p = by-end (takeBack base u) (back-ends base u)
@@ -81,7 +97,7 @@ module _ (P : Device → Type 0) (onTable : (i n v : ℕ) (d : Device) → P d �
         by-end : (o : After (Unit {0}) World) → BackEnds base u o → Ending On o
         by-end _ none = p
         by-end _ damaged = p
-        by-end _ (taken i long e) = undo-stays base i (drop (length (u .used) - (i + 1) * 16) (u .used)) (u .now) (u .now) e p
+        by-end _ (taken i long e) = undo-stays base i (drop (length (u .used) - (i + 1) * 16) (u .used)) (u .now) (u .now) refl e p
 
     told-stays : (staging : List ℕ) (used : ℕ) (o : After Heard World) → Ending On o → P (deviceTold (toldAfter staging used o))
     unfolding toldAfter
@@ -105,31 +121,22 @@ module _ (P : Device → Type 0) (onTable : (i n v : ℕ) (d : Device) → P d �
           as-told (made a v) q = unfold heardNothing in q
           as-told (unmade n v) q = unfold heardNothing in q
 
--- ---- "Ignoring masks is a setting chosen with the device, which no call changes"
-
-setting-on : (ignore : Bool) (f : Field) (v : ℕ) (d : Device) → v < 2 ^ bitsOf f → d .ignore ≡ ignore → withField f v d .ignore ≡ ignore
-setting-on ignore (SCALAR i) v d l e = e
-setting-on ignore (MASKS c) v d l e = e
-setting-on ignore (FORCED c) v d l e = e
-setting-on ignore (LINES c) v d l e = e
-setting-on ignore (CONFIG c) v d l e = e
-setting-on ignore (BUSY ch) v d l e = e
-setting-on ignore (MAJORS ch) v d l e = e
-setting-on ignore (PENDING ch) v d l e = e
-setting-on ignore (SOURCE c s) v d l e = e
-setting-on ignore (TAKEN i) v d l e = e
-
 -- ---- of acts and take-backs
 
+-- "Ignoring masks is a setting no call changes", and so is the mode
+abbrev AsSet : Setting → Device → Device → Type 0
+AsSet s d e = settingOf s e ≡ settingOf s d
+
+table-set : (s : Setting) (d : Device) (i n v : ℕ) (e : Device) → AsSet s d e → AsSet s d (withTable e (splice (e .table) i (bytes n v)))
+table-set IGNORE d i n v e p = p
+table-set CHIP d i n v e p = p
+
 module _ (base : ℕ) (d : Device) (window journal : List ℕ) (used : ℕ) where
-  abbrev AsSet : Device → Type 0
-  AsSet e = e .ignore ≡ d .ignore
+  pub act-keeps-setting : (s : Setting) (c : Asked) (staging : List ℕ) → settingOf s (deviceTold (after c base d window staging journal used)) ≡ settingOf s d
+  act-keeps-setting s c staging = act-stays (AsSet s d) (table-set s d) (λ f v e _ p. put-setting s f v e ∙ p) base d window journal used refl c staging
 
-  pub act-keeps-setting : (c : Asked) (staging : List ℕ) → deviceTold (after c base d window staging journal used) .ignore ≡ d .ignore
-  act-keeps-setting c staging = act-stays AsSet (λ i n v e p. p) (setting-on (d .ignore)) base d window journal used refl c staging
-
-  pub back-keeps-setting : deviceTold (afterBack base d window journal used) .ignore ≡ d .ignore
-  back-keeps-setting = back-stays AsSet (λ i n v e p. p) (setting-on (d .ignore)) base d window journal used refl
+  pub back-keeps-setting : (s : Setting) → settingOf s (deviceTold (afterBack base d window journal used)) ≡ settingOf s d
+  back-keeps-setting s = back-stays (AsSet s d) (table-set s d) (λ f v e _ p. put-setting s f v e ∙ p) base d window journal used refl
 
   pub act-keeps-proper : (c : Asked) (staging : List ℕ) → Proper d → Proper (deviceTold (after c base d window staging journal used))
   act-keeps-proper c staging p = act-stays Proper proper-table proper-field base d window journal used p c staging

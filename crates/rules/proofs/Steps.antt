@@ -8,7 +8,7 @@ use borrow.Author.Tests.{le-leb, lt-leb}
 use lib.Dec.{leb}
 use lib.ListN.{length}
 use Rattle.rules.specs.Act.{Act, Done, Endless, Stage, Fetch, Store, Ask, Put, Look, Space, window, table, Field, _>>=_, _>>_, nothing, store, ask, put, change}
-use Rattle.rules.specs.Fields.{bitsOf, holds, withField}
+use Rattle.rules.specs.Fields.{bitsIn, holds, withField}
 use Rattle.rules.specs.Carry.{Machine, World, Out, ok, no, withDevice, there, legal, fetched, recorded, go, unmade, lastLines, cleared, leave, Lent}
 use Rattle.rules.proofs.BoolLaws.{and-both}
 
@@ -99,6 +99,10 @@ module _ (base a w : ℕ) (m : Machine) where
 abbrev pub putting : Field → ℕ → World → World
 putting f v u = record { now = withDevice (withField f v (u .now .dev)) (u .now); used = u .used; free = u .free }
 
+-- and any value, cut to the bits that it has in the mode
+abbrev pub cutting : Field → ℕ → World → World
+cutting f v u = putting f (v % 2 ^ bitsIn (u .now .dev .chip) f) u
+
 module _ (base : ℕ) (lent : Lent) {A : Type 0} where
   pub go-done : (a : A) (u : World) → go base lent (Done a) u ≡ ok a u
   unfolding go
@@ -142,11 +146,11 @@ module _ (base : ℕ) (lent : Lent) {A : Type 0} where
     store-full h l r = rw (h, l, lt-leb 16 (length (u .free)) r, go)
 
   module _ (f : Field) (v : ℕ) (k : Act A) (u : World) where
-    pub go-put : go base lent (Put f v k) u ≡ go base lent k (putting f (v % 2 ^ bitsOf f) u)
+    pub go-put : go base lent (Put f v k) u ≡ go base lent k (cutting f v u)
     unfolding go
     go-put = refl
 
-    pub put-fits : v < 2 ^ bitsOf f → go base lent (Put f v k) u ≡ go base lent k (putting f v u)
+    pub put-fits : v < 2 ^ bitsIn (u .now .dev .chip) f → go base lent (Put f v k) u ≡ go base lent k (putting f v u)
     put-fits h = go-put ∙ ap (λ (x : ℕ). go base lent k (putting f x u)) (mod-eq-of-lt h)
 
 -- ---- one step alone
@@ -171,11 +175,11 @@ module _ (base : ℕ) (lent : Lent) (u : World) where
   ask-does f = refl
 
   module _ (f : Field) where
-    pub put-does : (v : ℕ) → v < 2 ^ bitsOf f → go base lent (put f v) u ≡ ok tt (putting f v u)
+    pub put-does : (v : ℕ) → v < 2 ^ bitsIn (u .now .dev .chip) f → go base lent (put f v) u ≡ ok tt (putting f v u)
     unfolding go put
     put-does v h = put-fits base lent f v nothing u h
 
-    pub change-does : (g : ℕ → ℕ) → g (holds f (u .now .dev)) < 2 ^ bitsOf f → go base lent (change f g) u ≡ ok tt (putting f (g (holds f (u .now .dev))) u)
+    pub change-does : (g : ℕ → ℕ) → g (holds f (u .now .dev)) < 2 ^ bitsIn (u .now .dev .chip) f → go base lent (change f g) u ≡ ok tt (putting f (g (holds f (u .now .dev))) u)
     unfolding go change
     change-does g h = put-fits base lent f (g (holds f (u .now .dev))) nothing u h
 

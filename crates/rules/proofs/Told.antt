@@ -1,23 +1,25 @@
 -- Two answers that tell the same are the same, with what is there beside them: every contract over `toldActed`, `toldHeard` or `toldReading` fixes
 -- its outcome. Assumes nothing.
 use mathlib.Core.List.{List, [], _∷_, map}
-use mathlib.Core.Path.{_≡_, refl, sym, ap, ap₂, _∙_}
+use mathlib.Core.Path.{_≡_, refl, sym, ap, ap₂, _∙_, subst}
 use Prim.Native.Nat.{ℕ, suc, _-_}
 use native.Mathlib.Omega.{arith}
 use lib.ListN.{getD, drop}
-use Rattle.rules.specs.Calls.{refusalNumber, verdictNumber, toldActed, toldHeard, toldReading}
+use Rattle.rules.specs.Calls.{refusalNumber, verdictNumber, Told, told, Spared, toldActed, toldHeard, toldReading}
 use Rattle.rules.specs.State.{Device}
 use Rattle.rules.specs.View.{viewController, view}
 use Rattle.rules.specs.declared.Acknowledged.{Acknowledged}
 use Rattle.rules.specs.declared.Acted.{Acted}
 use Rattle.rules.specs.declared.Controller.{Controller as HeldController}
 use Rattle.rules.specs.declared.Device.{Device as HeldDevice}
+use Rattle.rules.specs.declared.Heard.{Heard}
 use Rattle.rules.specs.declared.Reading.{Reading}
 use Rattle.rules.specs.declared.Reading.the-variants as Reading
 use Rattle.rules.specs.declared.Refusal.{Refusal}
 use Rattle.rules.specs.declared.Refusal.the-variants as Refusal
 use Rattle.rules.specs.declared.Verdict.{Verdict}
 use Rattle.rules.specs.declared.Verdict.the-variants as Verdict
+use Rattle.rules.proofs.CallLaws.{AsGiven}
 use Rattle.rules.proofs.ScalarLaws.{scalars-once}
 
 -- ---- the refusal of a number
@@ -82,7 +84,22 @@ controllers-once (k ∷ ks) (l ∷ ls) e = ap₂ (λ x xs. x ∷ xs) (one (ap (�
     one : viewController k ≡ viewController l → k ≡ l
     one p = λ i. record { masks = p i .masks; forced = p i .forced; lines = p i .lines; levels = p i .levels; config = p i .config }
 
-pub view-once : (d e : HeldDevice) → view d ≡ view e → d ≡ e
+-- but for the bits of priorities that count for nothing: d with other priorities
+abbrev pub prioritized : HeldDevice → List ℕ → HeldDevice
+prioritized d l = record {
+  scalars = d .scalars;
+  table = d .table;
+  busy = d .busy;
+  majors = d .majors;
+  taken = d .taken;
+  pending = d .pending;
+  priorities = l;
+  controllers = d .controllers;
+  «ignore_masks» = d .«ignore_masks»;
+  chip = d .chip;
+}
+
+pub view-once : (d e : HeldDevice) → view d ≡ view e → d ≡ prioritized e (d .priorities)
 view-once d e p =
     let cs : d .controllers ≡ e .controllers = controllers-once (d .controllers) (e .controllers) (ap (λ (x : Device). x .controllers) p) in λ i.
     record {
@@ -92,29 +109,49 @@ view-once d e p =
       majors = p i .majors;
       taken = p i .taken;
       pending = p i .pending;
+      priorities = d .priorities;
       controllers = cs i;
       «ignore_masks» = p i .ignore;
+      chip = p i .chip;
     }
 
 -- ---- an act: the answer, window, staging and journal
 
-pub told-once : (a b : Acted) {w x s t i j : List ℕ} → toldActed a w s i ≡ toldActed b x t j → (a ≡ b) × (w ≡ x) × (s ≡ t) × (i ≡ j)
+-- the same answer, but for those bits
+pub record SameActed (a b : Acted) : Type 0 where
+  pub verdict : a .verdict ≡ b .verdict
+  pub used : a .used ≡ b .used
+  pub device : a .device ≡ prioritized (b .device) (a .device .priorities)
+
+pub told-once : (a b : Acted) {w x s t i j : List ℕ} → toldActed a w s i ≡ toldActed b x t j → SameActed a b × (w ≡ x) × (s ≡ t) × (i ≡ j)
 told-once a b e =
-    let verdict : a .verdict ≡ b .verdict = verdict-once (a .verdict) (b .verdict) (cc e) in
-    let used : a .used ≡ b .used = cc e in
-    let device : a .device ≡ b .device = view-once (a .device) (b .device) (cc e) in
-    (λ k. record { verdict = verdict k; used = used k; device = device k }, cc e, cc e, cc e)
+    (record { verdict = verdict-once (a .verdict) (b .verdict) (cc e); used = cc e; device = view-once (a .device) (b .device) (cc e) }, cc e, cc e, cc e)
 
 -- an acknowledge
-pub heard-once : (a b : Acknowledged) {w x s t i j : List ℕ} → toldHeard a w s i ≡ toldHeard b x t j → (a ≡ b) × (w ≡ x) × (s ≡ t) × (i ≡ j)
-heard-once a b e =
-    let verdict : a .verdict ≡ b .verdict = verdict-once (a .verdict) (b .verdict) (cc e) in
-    let heard : a .heard ≡ b .heard = cc e in
-    let used : a .used ≡ b .used = cc e in
-    let device : a .device ≡ b .device = view-once (a .device) (b .device) (cc e) in
-    (λ k. record { verdict = verdict k; heard = heard k; used = used k; device = device k }, cc e, cc e, cc e)
+pub record SameHeard (a b : Acknowledged) : Type 0 where
+  pub verdict : a .verdict ≡ b .verdict
+  pub heard : a .heard ≡ b .heard
+  pub used : a .used ≡ b .used
+  pub device : a .device ≡ prioritized (b .device) (a .device .priorities)
 
--- a register read
+pub heard-once : (a b : Acknowledged) {w x s t i j : List ℕ} → toldHeard a w s i ≡ toldHeard b x t j → SameHeard a b × (w ≡ x) × (s ≡ t) × (i ≡ j)
+heard-once a b e = (
+  record { verdict = verdict-once (a .verdict) (b .verdict) (cc e); heard = cc e; used = cc e; device = view-once (a .device) (b .device) (cc e) },
+  cc e,
+  cc e,
+  cc e,
+)
+
+-- ---- a refusal: the device is the one given, those bits too where the call spares them
+
+pub given-back : (d e : HeldDevice) (window journal : List ℕ) (used : ℕ) {t : Told} → AsGiven (view d) window journal used t → (v : Verdict) {h : Heard} {w s j : List ℕ} {u : ℕ}
+    → told (verdictNumber v) h (view e) w s j u ≡ t → Spared v (d .priorities) (e .priorities) → (n : Refusal) → v ≡ Verdict.Refused n → e ≡ d
+given-back d e window journal used given v {h} {w} {s} {j} {u} tells spared n is =
+    let back : AsGiven (view d) window journal used (told (verdictNumber v) h (view e) w s j u) = subst (AsGiven (view d) window journal used) (sym tells) given in
+    view-once e d ((rw (is, refusal-suc n .1) at back) .0) ∙ ap (prioritized d) (spared n is)
+
+-- ---- a register read
+
 pub reading-once : (a b : Reading) → toldReading a ≡ toldReading b → a ≡ b
 reading-once (Reading.Value v) (Reading.Value w) e = let p : v ≡ w = cc e in ap (λ x. Reading.Value x) p
 reading-once (Reading.Value v) (Reading.Refused s) e = let p : 0 ≡ refusalNumber s = cc e in absurd (refusal-counts s (sym p))

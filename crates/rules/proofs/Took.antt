@@ -13,14 +13,14 @@ use lib.Seq.{drop-append-seam}
 use Rattle.rules.specs.Act.{Act, Space, window, table, Field}
 use Rattle.rules.specs.Bytes.{Bytes, number}
 use Rattle.rules.specs.With.{withTable}
-use Rattle.rules.specs.Fields.{bitsOf, fieldAt, fitsSome, fieldsOf}
+use Rattle.rules.specs.Fields.{bitsIn, fieldAt, fitsSome, fieldsOf}
 use Rattle.rules.specs.Carry.{Machine, World, Rec, stoodAt, stoodIn, Out, ok, no, bytesOf, withDevice, indexOf, there, legal, fetched, lineOf, linesOf, endLine, recorded, go, After, made, unmade, changed, lastLines, written, cleared, leave, perform, undo, Lent}
 use Rattle.rules.specs.TakeBack.{soundStore, decodeAll}
 use Rattle.rules.proofs.BoolLaws.{and-both}
 use Rattle.rules.proofs.BytesLaws.{part-lt}
 use Rattle.rules.proofs.PartLaws.{Within}
 use Rattle.rules.proofs.FieldLaws.{within, fieldBits, Agrees, AllNamed, all-named, put-law}
-use Rattle.rules.proofs.Steps.{putting}
+use Rattle.rules.proofs.Steps.{cutting}
 use Rattle.rules.proofs.Free.{Seen, seen}
 use Rattle.rules.proofs.Keeps.{AtEnd, go-keeps, Alike, alike-store, alike-put, Good, good-store, good-put}
 use Rattle.rules.proofs.Undo.{asIn, store-back, undo-append, has-bits, fields-back}
@@ -37,7 +37,7 @@ module _ (base : ℕ) where
   sound-same : (r : Rec) (m m₀ : Machine) → Alike m₀ m → SoundRec base m₀ r → SoundRec base m r
   unfolding soundStore
   sound-same (stoodAt sp a w v) m m₀ h e = ap (λ b. legal sp w && b && ltb v (256 ^ w)) (there-same sp a w m m₀ h) ∙ e
-  sound-same (stoodIn n v) m m₀ h e = e
+  sound-same (stoodIn n v) m m₀ h e = subst (λ c. fitsSome c (fieldAt c n) v ≡ true) (sym (h .chip-is)) e
 
   all-same : (g : List Rec) (m m₀ : Machine) → Alike m₀ m → AllSound base m₀ g → AllSound base m g
   unfolding AllSound
@@ -50,7 +50,7 @@ module _ (base : ℕ) where
   all-append (r ∷ g) k m a b = (a .0, all-append g k m (a .1) b)
 
   -- a field that differs has its number, and what it was fits
-  all-changed : (bs xs ys : List ℕ) (n : ℕ) (m : Machine) → AllNamed n bs → Within bs xs → Within bs ys → AllSound base m (changed n xs ys)
+  all-changed : (bs xs ys : List ℕ) (n : ℕ) (m : Machine) → AllNamed (m .dev .chip) n bs → Within bs xs → Within bs ys → AllSound base m (changed n xs ys)
   unfolding AllSound changed
   all-changed [] [] ys n m a f g = tt
   all-changed [] (x ∷ xs) ys n m a f g = absurd f
@@ -58,14 +58,14 @@ module _ (base : ℕ) where
   all-changed (b ∷ bs) (x ∷ xs) [] n m a f g = tt
   all-changed (b ∷ bs) (x ∷ xs) (y ∷ ys) n m a f g = differs (eqb x y) refl (all-changed bs xs ys (suc n) m (a .1) (f .1) (g .1))
     where
-      fits : (o : Option Field) → Agrees n b o → (b ≡ 0 → ⊥) → fitsSome o x ≡ true
+      fits : (o : Option Field) → Agrees (m .dev .chip) n b o → (b ≡ 0 → ⊥) → fitsSome (m .dev .chip) o x ≡ true
       fits none z nz = absurd (nz z)
-      fits (some w) k nz = lt-ltb x (2 ^ bitsOf w) (subst (λ c. x < 2 ^ c) (sym (k .bits)) (f .0))
+      fits (some w) k nz = lt-ltb x (2 ^ bitsIn (m .dev .chip) w) (subst (λ c. x < 2 ^ c) (sym (k .bits)) (f .0))
 
       differs : (t : Bool) → eqb x y ≡ t → AllSound base m (changed (suc n) xs ys)
           → AllSound base m (elim t [ true ↦ changed (suc n) xs ys | false ↦ stoodIn n x ∷ changed (suc n) xs ys ])
       differs true t rest = rest
-      differs false t rest = (fits (fieldAt n) (a .0) (has-bits x y b (f .0) (g .0) t), rest)
+      differs false t rest = (fits (fieldAt (m .dev .chip) n) (a .0) (has-bits x y b (f .0) (g .0) t), rest)
 
 -- ---- all through an act
 
@@ -97,7 +97,7 @@ module _ (base : ℕ) (u : World) (entry : Good base (u .now)) where
     used-is = sym (append-nil (u .used));
     undone = refl;
     all-sound = tt;
-    alike = record { mem-is = refl; table-is = refl; ignore-is = refl };
+    alike = record { mem-is = refl; table-is = refl; ignore-is = refl; chip-is = refl };
     good = entry;
     total-is = refl;
   }
@@ -132,10 +132,10 @@ module _ (base : ℕ) (u : World) (entry : Good base (u .now)) where
           and-both (and-both l (sym (there-same base sp a n (v .now) (u .now) (h .alike)) ∙ t))
           (lt-ltb _ _ (part-lt n (bytesOf sp (v .now)) (indexOf base sp a) n (bytes-there sp) (le-refl n)))
 
-  on-put : (f : Field) (x : ℕ) (v : World) → Underway base u v → Underway base u (putting f (x % 2 ^ bitsOf f) v)
+  on-put : (f : Field) (x : ℕ) (v : World) → Underway base u v → Underway base u (cutting f x v)
   unfolding withDevice
   on-put f x v h =
-      let y = x % 2 ^ bitsOf f in
+      let y = x % 2 ^ bitsIn (v .now .dev .chip) f in
       record {
         log = h .log;
         used-is = h .used-is;
@@ -193,7 +193,8 @@ module _ (base : ℕ) (u : World) (entry : Good base (u .now)) (small : total u 
       let g = h .log ++ f in
       let all : AllSound base (u .now) g =
       all-append base (h .log) f (u .now) (h .all-sound)
-      (all-changed base fieldBits (fieldsOf (u .now .dev)) (fieldsOf (v .now .dev)) 0 (u .now) all-named (within (u .now .dev) (entry .sound-dev)) (within (v .now .dev) (h .good .sound-dev))) in
+      (all-changed base (fieldBits (u .now .dev .chip)) (fieldsOf (u .now .dev)) (fieldsOf (v .now .dev)) 0 (u .now) (all-named (u .now .dev .chip)) (within (u .now .dev) (entry .sound-dev))
+      (subst (λ c. Within (fieldBits c) (fieldsOf (v .now .dev))) (h .alike .chip-is) (within (v .now .dev) (h .good .sound-dev)))) in
       let n : (length (v .used) - length (u .used)) / 16 ≡ length (h .log) =
       ap (λ x. (x - length (u .used)) / 16) (ap length (h .used-is) ∙ length-append (u .used) (linesOf (h .log)) ∙ ap (λ x. length (u .used) + x) (length-lines (h .log)))
       ∙ ap (λ x. x / 16) (omega arith) ∙ mul-div-cancel (length (h .log)) (lit< tt) in
@@ -208,7 +209,7 @@ module _ (base : ℕ) (u : World) (entry : Good base (u .now)) (small : total u 
           few = omega (arith, sum, ap length used, length-append (u .used) (groupBytes g), length-group g);
           undone =
               undo-append base (h .log) f (v .now)
-              ∙ ap (undo base (h .log)) (fields-back base (u .now) (v .now) (entry .sound-dev) (h .good .sound-dev) (h .alike .ignore-is))
+              ∙ ap (undo base (h .log)) (fields-back base (u .now) (v .now) (entry .sound-dev) (h .good .sound-dev) (h .alike .ignore-is) (h .alike .chip-is))
               ∙ h .undone;
         },
         h .good,

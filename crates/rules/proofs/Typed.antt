@@ -1,10 +1,12 @@
 -- What every value of the declared type `Device` stands for is sound, and its table has 2048 bytes. Assumes nothing.
+use mathlib.Core.Bool.{cond}
 use mathlib.Core.Path.{_≡_, sym, _∙_}
 use mathlib.Core.List.{List, [], _∷_, map}
-use Prim.Native.Nat.{ℕ, zero, suc, _+_, _-_, _≤_, _<_, _^_}
-use native.Mathlib.Nat.{not-suc-le-zero, le-of-suc-le-suc, le-of-eq, suc-inj}
+use Prim.Native.Nat.{ℕ, zero, suc, _+_, _-_, _%_, _≤_, _<_, _^_}
+use native.Mathlib.Nat.{mod-lt, not-suc-le-zero, le-of-suc-le-suc, le-of-eq, suc-inj}
 use native.Mathlib.Omega.{arith}
 use lib.Dec.{lit<}
+use lib.Pow.{pow-pos}
 use lib.ListN.{length, length-map, replicate}
 use borrow.Author.Needs.{needs}
 use base.Fml.{Fml}
@@ -27,7 +29,7 @@ use Rattle.rules.specs.declared.Controller.{Controller as HeldController
 use Rattle.rules.specs.declared.Device.{Device as HeldDevice}
 use Rattle.rules.specs.declared.Scalars.{Scalars}
 use Rattle.rules.specs.Bytes.{Bytes}
-use Rattle.rules.specs.Fields.{controller, ownOf, partsOf}
+use Rattle.rules.specs.Fields.{bitsOf, controller, ownOf, partsOf}
 use Rattle.rules.proofs.PartLaws.{Within}
 use Rattle.rules.proofs.FieldLaws.{Sound, bitParts}
 use Rattle.rules.proofs.Keeps.{Good}
@@ -47,6 +49,13 @@ within-each own b h zero (x ∷ xs) us e s = absurd (not-suc-le-zero (le-of-eq e
 within-each own b h (suc n) [] us e s = absurd (not-suc-le-zero (le-of-eq (sym e)))
 within-each own b h (suc n) (x ∷ xs) [] e s = absurd s
 within-each own b h (suc n) (x ∷ xs) (u ∷ us) e s = (h x u (s .0), within-each own b h n xs us (suc-inj e) (s .1))
+
+-- an array of numbers, cut to their low bits
+low-bits : (b n : ℕ) (xs : List ℕ) → length xs ≡ n → Within (replicate n b) (map (λ (v : ℕ). v % 2 ^ b) xs)
+low-bits b zero [] e = tt
+low-bits b zero (x ∷ xs) e = absurd (not-suc-le-zero (le-of-eq e))
+low-bits b (suc n) [] e = absurd (not-suc-le-zero (le-of-eq (sym e)))
+low-bits b (suc n) (x ∷ xs) e = (mod-lt x (pow-pos b), low-bits b n xs (suc-inj e))
 
 -- an array of bytes
 bytes-each : (xs : List ℕ) (us : List Val) → shadow (each ℕ (u8-field .row .own) (map (λ v. v) xs) us) → Bytes xs
@@ -90,10 +99,10 @@ pub table-size : (d : HeldDevice) → Typed d → length (d .table) ≡ 2048
 table-size d g = search (needs, g .1 .1 .1 .0)
 
 pub sound : (d : HeldDevice) → Typed d → Sound (view d)
-unfolding bitParts partsOf ownOf
+unfolding bitParts bitsOf partsOf ownOf
 sound d g =
     let t = g .1 .1 .1 in
-    let cs = t .1 .1 .1 .1 .1 .0 in
+    let cs = t .1 .1 .1 .1 .1 .1 .0 in
     let three : length (d .controllers) ≡ 3 = sym (length-map (d .controllers) (the-field .into)) ∙ cs .1 .0 .1 in
     let k : (i : ℕ) → i < 3 → Fits (controller (map viewController (d .controllers)) i) = λ i l. each-fits (d .controllers) _ (cs .1 .1) i (omega arith) in
     let a = k 0 (lit< tt) in
@@ -103,6 +112,7 @@ sound d g =
     let majors-l : length (d .majors) ≡ 64 = search (needs, t .1 .1 .0) in
     let taken-l : length (d .taken) ≡ 192 = search (needs, t .1 .1 .1 .0) in
     let pending-l : length (d .pending) ≡ 64 = search (needs, t .1 .1 .1 .1 .0) in
+    let priorities-l : length (d .priorities) ≡ 64 = search (needs, t .1 .1 .1 .1 .1 .0) in
     let zs : (n : ℕ) → Within (replicate n 0) (replicate n 0) = zeros in
     record {
       three = length-map (d .controllers) viewController ∙ three;
@@ -126,7 +136,7 @@ sound d g =
                         c .levels,
                         (
                           zs 128,
-                          (within-each (u64-field .row .own) 64 (λ x u f. search (needs, f)) 192 (d .taken) (t .1 .1 .1 .0 .0) taken-l (t .1 .1 .1 .0 .1 .1), tt),
+                          (within-each (u64-field .row .own) 64 (λ x u f. search (needs, f)) 192 (d .taken) (t .1 .1 .1 .0 .0) taken-l (t .1 .1 .1 .0 .1 .1), (low-bits (cond (d .chip) 6 0) 64 (d .priorities) priorities-l, tt)),
                         ),
                       ),
                     ),

@@ -10,7 +10,7 @@ use borrow.Author.Tests.{eqb-true, eqb-false}
 use lib.Dec.{eqb}
 use lib.ListN.{set, length, length-append}
 use lib.Seq.{set-at, append-snoc}
-use Rattle.rules.specs.Act.{Space, window, table, Field}
+use Rattle.rules.specs.Act.{Space, window, table, Field, IGNORE, CHIP}
 use Rattle.rules.specs.Bytes.{Bytes, bytes, number, part, splice}
 use Rattle.rules.specs.State.{Device}
 use Rattle.rules.specs.With.{withTable}
@@ -18,7 +18,7 @@ use Rattle.rules.specs.Fields.{ownOf, partsOf, fieldsOf, fieldAt, withSo
 use Rattle.rules.specs.Carry.{Machine, Rec, stoodAt, stoodIn, bytesOf, withBytesOf, withDevice, indexOf, fetched, stored, changed, undoRec, undo}
 use Rattle.rules.proofs.BytesLaws.{length-bytes, splice-undo, part-back}
 use Rattle.rules.proofs.PartLaws.{Within}
-use Rattle.rules.proofs.FieldLaws.{Sound, within, fieldBits, Agrees, AllNamed, all-named, put-law, put-sound, put-fields}
+use Rattle.rules.proofs.FieldLaws.{Sound, within, fieldBits, Agrees, AllNamed, all-named, put-setting, put-law, put-sound, put-fields}
 use Rattle.rules.proofs.Same.{device-same}
 
 -- ---- one store
@@ -57,16 +57,17 @@ record Restored (m e : Machine) (l : List ℕ) : Type 0 where
   fields : fieldsOf (e .dev) ≡ l
   table : e .dev .table ≡ m .dev .table
   ignore : e .dev .ignore ≡ m .dev .ignore
+  chip : e .dev .chip ≡ m .dev .chip
   sound : Sound (e .dev)
 
 module _ (base : ℕ) where
   -- one field, put back by its number
-  one-back : (p xs : List ℕ) (x y n b : ℕ) (m e : Machine) → length p ≡ n → x < 2 ^ b → (b ≡ 0 → ⊥) → Agrees n b (fieldAt n)
+  one-back : (p xs : List ℕ) (x y n b : ℕ) (m e : Machine) → length p ≡ n → x < 2 ^ b → (b ≡ 0 → ⊥) → Agrees (m .dev .chip) n b (fieldAt (m .dev .chip) n)
       → Restored m e (p ++ y ∷ xs) → Restored m (undoRec base (stoodIn n x) e) (p ++ x ∷ xs)
   unfolding undoRec withDevice
-  one-back p xs x y n b m e lp h nz k r = named (fieldAt n) k
+  one-back p xs x y n b m e lp h nz k r = named (fieldAt (e .dev .chip) n) (subst (λ c. Agrees c n b (fieldAt c n)) (sym (r .chip)) k)
     where
-      named : (o : Option Field) → Agrees n b o → Restored m (withDevice (withSome o x (e .dev)) e) (p ++ x ∷ xs)
+      named : (o : Option Field) → Agrees (e .dev .chip) n b o → Restored m (withDevice (withSome o x (e .dev)) e) (p ++ x ∷ xs)
       named none z = absurd (nz z)
       named (some f) k =
           let q = put-law f x (e .dev) (r .sound .three) in
@@ -76,15 +77,16 @@ module _ (base : ℕ) where
                 put-fields f x (e .dev) (r .sound) (k .real) ∙ ap (λ i. set (fieldsOf (e .dev)) i x) (k .number) ∙ ap (λ l. set l n x) (r .fields)
                 ∙ set-at p y xs x n lp;
             table = q .table ∙ r .table;
-            ignore = q .ignore ∙ r .ignore;
+            ignore = put-setting IGNORE f x (e .dev) ∙ r .ignore;
+            chip = put-setting CHIP f x (e .dev) ∙ r .chip;
             sound = put-sound f x (e .dev) (r .sound) (subst (λ c. x < 2 ^ c) (sym (k .bits)) h);
           }
 
   -- the fields that differ, put back
-  changed-back : (bs xs ys p : List ℕ) (n : ℕ) (m : Machine) → AllNamed n bs → length p ≡ n → Within bs xs → Within bs ys
+  changed-back : (bs xs ys p : List ℕ) (n : ℕ) (m : Machine) → AllNamed (m .dev .chip) n bs → length p ≡ n → Within bs xs → Within bs ys
       → Sound (m .dev) → fieldsOf (m .dev) ≡ p ++ ys → Restored m (undo base (changed n xs ys) m) (p ++ xs)
   unfolding changed undo
-  changed-back [] [] [] p n m a lp f g s h = record { mem = refl; fields = h; table = refl; ignore = refl; sound = s }
+  changed-back [] [] [] p n m a lp f g s h = record { mem = refl; fields = h; table = refl; ignore = refl; chip = refl; sound = s }
   changed-back [] [] (y ∷ ys) p n m a lp f g s h = absurd g
   changed-back [] (x ∷ xs) ys p n m a lp f g s h = absurd f
   changed-back (b ∷ bs) [] ys p n m a lp f g s h = absurd f
@@ -100,13 +102,14 @@ module _ (base : ℕ) where
       differs false t rest = one-back p xs x y n b m (undo base (changed (suc n) xs ys) m) lp (f .0) (has-bits x y b (f .0) (g .0) t) (a .0) rest
 
   -- the records of the fields that differ from those of m₀, undone at m: the device of m₀, but for the table
-  pub fields-back : (m₀ m : Machine) → Sound (m₀ .dev) → Sound (m .dev) → m .dev .ignore ≡ m₀ .dev .ignore
+  pub fields-back : (m₀ m : Machine) → Sound (m₀ .dev) → Sound (m .dev) → m .dev .ignore ≡ m₀ .dev .ignore → m .dev .chip ≡ m₀ .dev .chip
       → undo base (changed 0 (fieldsOf (m₀ .dev)) (fieldsOf (m .dev))) m ≡ asIn (m₀ .dev) m
   unfolding fieldsOf partsOf ownOf
-  fields-back m₀ m s t i =
+  fields-back m₀ m s t i c =
       let e = undo base (changed 0 (fieldsOf (m₀ .dev)) (fieldsOf (m .dev))) m in
       let r : Restored m e (fieldsOf (m₀ .dev)) =
-      changed-back fieldBits (fieldsOf (m₀ .dev)) (fieldsOf (m .dev)) [] 0 m all-named refl (within (m₀ .dev) s) (within (m .dev) t) t refl in
+      changed-back (fieldBits (m .dev .chip)) (fieldsOf (m₀ .dev)) (fieldsOf (m .dev)) [] 0 m (all-named (m .dev .chip)) refl
+      (subst (λ x. Within (fieldBits x) (fieldsOf (m₀ .dev))) (sym c) (within (m₀ .dev) s)) (within (m .dev) t) t refl in
       ap₂ (λ l d. record { mem = l; dev = d }) (r .mem)
       (device-same (e .dev) (withTable (m₀ .dev) (m .dev .table)) (r .sound)
-      (record { three = s .three; fitting = s .fitting; table-bytes = t .table-bytes }) (r .fields) (r .table) (r .ignore ∙ i))
+      (record { three = s .three; fitting = s .fitting; table-bytes = t .table-bytes }) (r .fields) (r .table) (r .ignore ∙ i) (r .chip ∙ c))

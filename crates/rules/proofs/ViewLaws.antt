@@ -1,11 +1,15 @@
--- What a device stands for of which one controller is changed. Assumes nothing.
+-- What a device stands for of which one controller is changed; and a priority. Assumes nothing.
+use mathlib.Core.Bool.{Bool, true}
 use mathlib.Core.List.{List, [], _∷_, map}
 use mathlib.Core.Path.{_≡_, refl, sym, ap, _∙_}
-use Prim.Native.Nat.{ℕ, zero, suc}
+use Prim.Native.Nat.{ℕ, zero, suc, _%_, _^_}
+use native.Mathlib.Nat.{mod-eq-of-lt}
 use lib.ListN.{getD, set}
-use Rattle.rules.specs.Fields.{controller, onController}
+use lib.Pow.{pow-pos}
+use Rattle.rules.specs.Act.{PRIORITY}
+use Rattle.rules.specs.Fields.{bitsOf, bitsIn, controller, onController}
 use Rattle.rules.specs.State.{Controller}
-use Rattle.rules.specs.View.{viewController, view}
+use Rattle.rules.specs.View.{viewController, viewPriorities, view}
 use Rattle.rules.specs.With.{withControllers}
 use Rattle.rules.specs.declared.Controller.{Controller as HeldController}
 use Rattle.rules.specs.declared.Device.{Device as HeldDevice}
@@ -39,3 +43,14 @@ module _ (cs : List HeldController) (c : ℕ) where
 pub put-viewed : (d : HeldDevice) (c : ℕ) (k : HeldController) (g : Controller → Controller) → viewController k ≡ g (viewController (getD (d .controllers) c noHeld))
     → withControllers (view d) (map viewController (set (d .controllers) c k)) ≡ onController (view d) c g
 put-viewed d c k g e = ap (withControllers (view d)) (set-viewed (d .controllers) c k g e)
+
+-- of what is held as a priority, the bits that count in a mode
+pub priority-viewed : (chip : Bool) (l : List ℕ) (ch : ℕ) → getD (viewPriorities chip l) ch 0 ≡ getD l ch 0 % 2 ^ bitsIn chip (PRIORITY 0)
+priority-viewed chip l ch =
+    let bits : ℕ = bitsIn chip (PRIORITY 0) in
+    ap (getD (viewPriorities chip l) ch) (sym (mod-eq-of-lt (pow-pos bits))) ∙ map-get (λ (v : ℕ). v % 2 ^ bits) l ch 0
+
+-- six, in the chip's
+pub six-viewed : (l : List ℕ) (ch : ℕ) → getD l ch 0 % 64 ≡ getD (viewPriorities true l) ch 0
+unfolding bitsOf
+six-viewed l ch = sym (priority-viewed true l ch)

@@ -11,14 +11,14 @@ pub data Space : Type 0 where
   window table : Space
 
 -- the fields, by name; `SCALAR i` is the number i of those that stand alone (`Scalars` has their names), `TAKEN i` the taken count of vector
--- 64 + i, `SOURCE c s` the level byte of source s of controller c
+-- 64 + i, `SOURCE c s` the level byte of source s of controller c, `PRIORITY ch` a channel's priority
 pub data Field : Type 0 where
-  SCALAR MASKS FORCED LINES CONFIG BUSY MAJORS PENDING TAKEN : ℕ → Field
+  SCALAR MASKS FORCED LINES CONFIG BUSY MAJORS PENDING TAKEN PRIORITY : ℕ → Field
   SOURCE : ℕ → ℕ → Field
 
--- what is chosen when the device is made, and no step changes
+-- what is chosen when the device is made, and no step changes: whether masks are ignored; whether service is as the chip does it
 pub data Setting : Type 0 where
-  IGNORE : Setting
+  IGNORE CHIP : Setting
 
 pub data Act (A : Type 0) : Type 0 where
   -- the answer

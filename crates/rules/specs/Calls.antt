@@ -1,8 +1,9 @@
--- Document 01, "The calls" and "Refusal numbers", with document 02's [1]: what each call is given, what refuses it before anything is done, its
+-- Document 01, "The calls" and "Refusal numbers", with document 02's [1] and [10]: what each call is given, what refuses it before anything is done, its
 -- act, and all that is there after it. Assumes nothing.
-use mathlib.Core.Bool.{Bool, true, false, not, _||_}
+use mathlib.Core.Bool.{Bool, true, false, cond, not, _||_}
 use mathlib.Core.List.{List, [], _∷_, _++_}
 use mathlib.Core.Option.{Option, none, some}
+use mathlib.Core.Path.{_≡_}
 use Prim.Native.Nat.{ℕ, zero, suc, _+_, _-_, _%_, _^_}
 use lib.Bits.{bitAnd, bitOr}
 use lib.Dec.{eqb, ltb}
@@ -69,21 +70,30 @@ abbrev pub readingValue : Reading → ℕ
 readingValue (Reading.Value v) = v
 readingValue (Reading.Refused r) = 0
 
--- ---- a fresh device: zero in every field, except masks (all ones) and deadline (2^64 - 1)
+-- ---- a fresh device: zero in every field, except masks (all ones) and deadline (2^64 - 1), and in the chip's mode priorities (the channel's own
+-- number)
 
 unfoldable pub freshController : Controller
 freshController = record { masks = 2 ^ 64 - 1; forced = 0; lines = 0; levels = replicate 64 0; config = 0 }
 
-unfoldable pub fresh : Bool → Device
-fresh ignore = withField DEADLINE (2 ^ 64 - 1) (record {
+-- so many numbers, from n on
+unfoldable pub counting : ℕ → ℕ → List ℕ
+counting zero n = []
+counting (suc left) n = n ∷ counting left (suc n)
+
+-- with its settings: masks are ignored; the mode is the chip's
+unfoldable pub fresh : Bool → Bool → Device
+fresh ignore chip = withField DEADLINE (2 ^ 64 - 1) (record {
   scalars = replicate (length scalarBits) 0;
   controllers = freshController ∷ freshController ∷ freshController ∷ [];
   busy = replicate 64 0;
   majors = replicate 64 0;
   pending = replicate 64 0;
   taken = replicate 192 0;
+  priorities = cond chip (counting 64 0) (replicate 64 0);
   table = replicate 2048 0;
   ignore = ignore;
+  chip = chip;
 })
 
 -- ---- the acts
@@ -234,6 +244,10 @@ toldActed r window staging journal = told (verdictNumber (r .verdict)) Heard.Not
 abbrev pub toldHeard : Acknowledged → List ℕ → List ℕ → List ℕ → Told
 toldHeard r window staging journal = told (verdictNumber (r .verdict)) (r .heard) (view (r .device)) window staging journal (r .used)
 
+-- where a call is refused, those bits of priorities that count for nothing (`View`) are as they were too: of all that are held, before and after it
+abbrev pub Spared : Verdict → List ℕ → List ℕ → Type 0
+Spared v held held′ = (n : Refusal) → v ≡ Verdict.Refused n → held′ ≡ held
+
 -- staging is all zero after every run or service that is not refused before anything is done, and otherwise unchanged
 unfoldable pub stagingAfter : Asked → List ℕ → List ℕ
 stagingAfter (write address size v) staging = staging
@@ -299,5 +313,5 @@ unfolding badSize isNone badWindow badJournal badTime badSum check wrong first b
 refusals = tt
 
 unfoldable pub calls : Unit {0}
-unfolding refusals freshController fresh setInputs addPending orNothing levelled actOf stagingAfter toldAfter unlessStopped after heardNothing afterBack orZero readUnless afterRead
+unfolding refusals freshController counting fresh setInputs addPending orNothing levelled actOf stagingAfter toldAfter unlessStopped after heardNothing afterBack orZero readUnless afterRead
 calls = tt

@@ -7,7 +7,7 @@ use lib.ListN.{length, drop, replicate}
 use Rattle.rules.specs.Act.{Act, Done, Endless, Stage, Fetch, Store, Ask, Put, Look, Space, window, table}
 use Rattle.rules.specs.State.{Device}
 use Rattle.rules.specs.With.{withTable}
-use Rattle.rules.specs.Fields.{bitsOf, holds, withField, settingOf, withNumber, fieldsOf}
+use Rattle.rules.specs.Fields.{bitsIn, holds, withField, settingOf, withNumber, fieldsOf}
 use Rattle.rules.specs.Bytes.{bytes, number, part, splice}
 
 -- ---- what is there
@@ -122,8 +122,8 @@ module _ (base : ℕ) (lent : Lent) where
         | false ↦ no 9 u
       ]
   go (Ask f k) u = go (k (holds f (u .now .dev))) u
-  -- cut to the field's bits
-  go (Put f v k) u = go k (record { now = withDevice (withField f (v % 2 ^ bitsOf f) (u .now .dev)) (u .now); used = u .used; free = u .free })
+  -- cut to the field's bits in this mode
+  go (Put f v k) u = go k (record { now = withDevice (withField f (v % 2 ^ bitsIn (u .now .dev .chip) f) (u .now .dev)) (u .now); used = u .used; free = u .free })
   go (Look s k) u = go (k (settingOf s (u .now .dev))) u
 
 -- ---- an act as a call makes it

@@ -1,14 +1,14 @@
--- The fields of a device: by name, and by the numbers of document 01, "Journal records". Assumes nothing.
-use mathlib.Core.Bool.{Bool, false, cond}
+-- The fields of a device: by name, and by the numbers of document 01, "Journal records", with document 02's [10]. Assumes nothing.
+use mathlib.Core.Bool.{Bool, true, false, cond, _||_}
 use mathlib.Core.List.{List, [], _∷_, _++_}
 use mathlib.Core.Option.{Option, none, some}
 use Prim.Native.Nat.{ℕ, zero, suc, _+_, _-_, _*_, _/_, _%_, _^_}
 use lib.Dec.{ltb}
 use lib.ListN.{length, getD, set, replicate}
 use Rattle.rules.specs.State.{Controller, Device}
-use Rattle.rules.specs.Act.{Field, SCALAR, MASKS, FORCED, LINES, CONFIG, BUSY, MAJORS, PENDING, SOURCE, TAKEN, Setting, IGNORE}
+use Rattle.rules.specs.Act.{Field, SCALAR, MASKS, FORCED, LINES, CONFIG, BUSY, MAJORS, PENDING, SOURCE, TAKEN, PRIORITY, Setting, IGNORE, CHIP}
 use Rattle.rules.specs.Scalars.{scalarBits}
-use Rattle.rules.specs.With.{withScalars, withBusy, withMajors, withPending, withControllers, withTaken}
+use Rattle.rules.specs.With.{withScalars, withBusy, withMajors, withPending, withControllers, withTaken, withPriorities}
 use Rattle.rules.specs.With.{withMasks, withForced, withLines, withConfig, withLevels}
 
 -- ---- by name
@@ -31,6 +31,7 @@ holds (MAJORS ch) d = getD (d .majors) ch 0
 holds (PENDING ch) d = getD (d .pending) ch 0
 holds (SOURCE c s) d = getD (controller (d .controllers) c .levels) s 0
 holds (TAKEN i) d = getD (d .taken) i 0
+holds (PRIORITY ch) d = getD (d .priorities) ch 0
 
 -- controller c of the device, changed
 abbrev pub onController : Device → ℕ → (Controller → Controller) → Device
@@ -48,8 +49,9 @@ withField (MAJORS ch) v d = withMajors d (set (d .majors) ch v)
 withField (PENDING ch) v d = withPending d (set (d .pending) ch v)
 withField (SOURCE c s) v d = onController d c (λ k. withLevels k (set (k .levels) s v))
 withField (TAKEN i) v d = withTaken d (set (d .taken) i v)
+withField (PRIORITY ch) v d = withPriorities d (set (d .priorities) ch v)
 
--- CR, pending: 32 bits; ICONFIG 16; levels 8; others 64
+-- CR, pending: 32 bits; ICONFIG 16; levels 8; priorities 6; others 64
 unfoldable pub bitsOf : Field → ℕ
 bitsOf (SCALAR i) = getD scalarBits i 64
 bitsOf (MASKS c) = 64
@@ -61,9 +63,29 @@ bitsOf (MAJORS ch) = 64
 bitsOf (PENDING ch) = 32
 bitsOf (SOURCE c s) = 8
 bitsOf (TAKEN i) = 64
+bitsOf (PRIORITY ch) = 6
+
+-- the fields that both modes have; the others are those of the chip's mode alone
+abbrev pub inBoth : Field → Bool
+inBoth (SCALAR i) = true
+inBoth (MASKS c) = true
+inBoth (FORCED c) = true
+inBoth (LINES c) = true
+inBoth (CONFIG c) = true
+inBoth (BUSY ch) = true
+inBoth (MAJORS ch) = true
+inBoth (PENDING ch) = true
+inBoth (SOURCE c s) = true
+inBoth (TAKEN i) = true
+inBoth (PRIORITY ch) = false
+
+-- the bits of a field in a mode: none where the mode has no such field
+abbrev pub bitsIn : Bool → Field → ℕ
+bitsIn chip f = cond (inBoth f || chip) (bitsOf f) 0
 
 abbrev pub settingOf : Setting → Device → Bool
 settingOf IGNORE d = d .ignore
+settingOf CHIP d = d .chip
 
 -- ---- by number
 
@@ -78,16 +100,17 @@ numberOf (MAJORS ch) = 128 + ch
 numberOf (PENDING ch) = 192 + ch
 numberOf (SOURCE c s) = 256 + 64 * c + s
 numberOf (TAKEN i) = 512 + (64 + i)
+numberOf (PRIORITY ch) = 768 + ch
 
--- the field of a number, if it has one
+-- the field of a number, if the mode has one
 unfoldable pub ofController : ℕ → ℕ → Field
 ofController zero c = MASKS c
 ofController (suc zero) c = FORCED c
 ofController (suc (suc zero)) c = LINES c
 ofController (suc (suc (suc k))) c = CONFIG c
 
-unfoldable pub fieldAt : ℕ → Option Field
-fieldAt n =
+unfoldable pub fieldAt : Bool → ℕ → Option Field
+fieldAt chip n =
     cond (ltb n (length scalarBits)) (some (SCALAR n))
     (cond (ltb n 16) none
     (cond (ltb n 28) (some (ofController ((n - 16) % 4) ((n - 16) / 4)))
@@ -97,7 +120,8 @@ fieldAt n =
     (cond (ltb n 256) (some (PENDING (n - 192)))
     (cond (ltb n 448) (some (SOURCE ((n - 256) / 64) ((n - 256) % 64)))
     (cond (ltb n 576) none
-    (cond (ltb n 768) (some (TAKEN (n - 576))) none)))))))))
+    (cond (ltb n 768) (some (TAKEN (n - 576)))
+    (cond (ltb n 832) (cond chip (some (PRIORITY (n - 768))) none) none))))))))))
 
 -- a device with another value in the field of a number; where there is no such field, the device
 abbrev pub withSome : Option Field → ℕ → Device → Device
@@ -105,12 +129,12 @@ withSome none v d = d
 withSome (some f) v d = withField f v d
 
 abbrev pub withNumber : ℕ → ℕ → Device → Device
-withNumber n v d = withSome (fieldAt n) v d
+withNumber n v d = withSome (fieldAt (d .chip) n) v d
 
--- there is a field, and it can hold the value
-abbrev pub fitsSome : Option Field → ℕ → Bool
-fitsSome none v = false
-fitsSome (some f) v = ltb v (2 ^ bitsOf f)
+-- there is a field, and in the mode it can hold the value
+abbrev pub fitsSome : Bool → Option Field → ℕ → Bool
+fitsSome chip none v = false
+fitsSome chip (some f) v = ltb v (2 ^ bitsIn chip f)
 
 -- ---- all the fields of a device, by number, as a list in parts; 0 where there is no such field
 
@@ -128,7 +152,7 @@ ownOf d = masksOf (controller (d .controllers) 0) (masksOf (controller (d .contr
 unfoldable pub partsOf : Device → List (List ℕ)
 partsOf d =
     d .scalars ∷ replicate (16 - length scalarBits) 0 ∷ ownOf d ∷ d .busy ∷ d .majors ∷ d .pending
-    ∷ controller (d .controllers) 0 .levels ∷ controller (d .controllers) 1 .levels ∷ controller (d .controllers) 2 .levels ∷ replicate 128 0 ∷ d .taken ∷ []
+    ∷ controller (d .controllers) 0 .levels ∷ controller (d .controllers) 1 .levels ∷ controller (d .controllers) 2 .levels ∷ replicate 128 0 ∷ d .taken ∷ d .priorities ∷ []
 
 unfoldable pub fieldsOf : Device → List ℕ
 fieldsOf d = joined (partsOf d)

@@ -3,9 +3,9 @@ pub mod Words
 pub mod State
 pub mod Act
 pub mod Scalars
-pub mod View
 pub mod With
 pub mod Fields
+pub mod View
 pub mod Carry
 pub mod Minor
 pub mod Run

@@ -1,5 +1,5 @@
 -- Document 01, "The calls": the registers, exactly the arms of `edma_read`, `edma_write`, `intc_read` and `intc_write`, and the descriptor
--- table at DMA offsets 0x1000..0x17FF. Assumes nothing.
+-- table at DMA offsets 0x1000..0x17FF; and priorities at 0x100..0x13F (document 02, [10]). Assumes nothing.
 use mathlib.Core.Bool.{Bool, cond, _&&_}
 use mathlib.Core.List.{List, [], _∷_}
 use mathlib.Core.Option.{Option, none, some}
@@ -7,7 +7,7 @@ use Prim.Native.Nat.{ℕ, zero, suc, _+_, _-_, _*_, _/_, _%_, _^_}
 use lib.Bits.{bitAnd, bitOr}
 use lib.Dec.{eqb, leb, ltb}
 use lib.ListN.{getD}
-use Rattle.rules.specs.Act.{Act, nothing, fetch, store, put, change, when, table, _>>=_, _>>_, MASKS, FORCED, CONFIG, SOURCE}
+use Rattle.rules.specs.Act.{Act, nothing, fetch, store, put, change, when, table, _>>=_, _>>_, MASKS, FORCED, CONFIG, SOURCE, PRIORITY}
 use Rattle.rules.specs.Scalars.{CR, ERQ, EEI, INT, ERR, KICK}
 use Rattle.rules.specs.Bytes.{bytes, number, part, splice}
 use Rattle.rules.specs.Words.{has, gain, lose, without}
@@ -140,7 +140,7 @@ unfoldable pub dmaWrite : ℕ → ℕ → ℕ → Option (Act (Unit {0}))
 dmaWrite off size v =
     cond (inTable off) (some (tableWrite (off - 0x1000) size v))
     (cond (eqb size 1 && within 0x18 0x1F off) (some (command (off - 0x18) v))
-    (cond (eqb size 1 && within 0x100 0x13F off) (some nothing)
+    (cond (eqb size 1 && within 0x100 0x13F off) (some (put (PRIORITY (off - 0x100)) v))
     (pick off size (dmaArms v))))
 
 -- ---- controller registers, written
@@ -213,7 +213,8 @@ unfoldable pub dmaRead : Device → ℕ → ℕ → Option ℕ
 dmaRead d off size =
     cond (inTable off) (some (number (part (d .table) (off - 0x1000) size)))
     (cond (eqb size 1 && within 0x18 0x1F off) (some 0)
-    (lookUp off size (dmaCells d)))
+    (cond (d .chip && (eqb size 1 && within 0x100 0x13F off)) (some (holds (PRIORITY (off - 0x100)) d))
+    (lookUp off size (dmaCells d))))
 
 unfoldable pub controllerCells : Controller → List Cell
 controllerCells c =

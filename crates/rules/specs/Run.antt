@@ -1,10 +1,11 @@
--- Document 01, "Run, service, controllers": requests, turns, and service. Assumes nothing.
+-- Document 01, "Run, service, controllers", with document 02's [10]: requests, turns in both modes, and service. Assumes nothing.
 use mathlib.Core.Bool.{Bool, cond, not, _&&_, _||_}
 use Prim.Native.Nat.{ℕ, zero, suc, _+_, _-_, _*_, _^_, min}
 use lib.Bits.{bitAnd, bitOr}
 use lib.Dec.{eqb, leb, ltb}
-use Rattle.rules.specs.Act.{Act, done, nothing, endless, ask, put, change, when, _>>=_, _>>_, BUSY, MAJORS, PENDING}
+use Rattle.rules.specs.Act.{Act, done, nothing, endless, fetch, ask, put, change, look, when, _>>=_, _>>_, table, BUSY, MAJORS, PENDING, PRIORITY, CHIP}
 use Rattle.rules.specs.Scalars.{ERQ, KICK, DEFERRED, DEADLINE, STANDING}
+use Rattle.rules.specs.Bytes.{number}
 use Rattle.rules.specs.Words.{has, gain, lose, lowest}
 use Rattle.rules.specs.Minor.{descriptor, pass, START, DONE}
 
@@ -67,11 +68,15 @@ unfoldable pub linePasses : ℕ
 linePasses = 2 ^ 22 + 1
 
 -- then busy until = now + sum x pace, and a deadline later than that falls to it
+unfoldable pub paced : ℕ → ℕ → ℕ → Act (Unit {0})
+paced now pace sum = do
+  put (BUSY 35) (now + sum * pace)
+  change DEADLINE (λ deadline. min deadline (now + sum * pace))
+
 unfoldable pub serveLine : ℕ → ℕ → Act (Unit {0})
 serveLine now pace = do
   sum ← lineLoop linePasses 0
-  put (BUSY 35) (now + sum * pace)
-  change DEADLINE (λ deadline. min deadline (now + sum * pace))
+  paced now pace sum
 
 -- other channels, while ERQ and a request hold, spend one pending count if there is one, then run a pass
 unfoldable pub requestLoop : ℕ → ℕ → Act (Unit {0})
@@ -106,7 +111,7 @@ turn now pace ch = do
   busy ← ask (BUSY ch)
   cond (ltb now busy) (change DEFERRED (λ k. gain k ch)) (serve now pace ch)
 
--- ---- run
+-- ---- turns
 
 -- the lowest set bit of KICK is served next
 unfoldable pub turns : ℕ → ℕ → ℕ → Act (Unit {0})
@@ -121,8 +126,55 @@ turns now pace (suc n) = do
 unfoldable pub runTurns : ℕ
 runTurns = 4096
 
+-- ---- turns as the chip makes them (document 02, [10])
+
+-- the channels that have START or both ERQ and a request and aren't busy past `now`
+unfoldable pub ready : ℕ → ℕ → Act Bool
+ready now ch = do
+  flags ← fetch table (32 * ch + 0x1F) 1
+  asks ← offered ch
+  busy ← ask (BUSY ch)
+  done ((has (number flags) START || asks) && not (ltb now busy))
+
+-- of so many channels from ch on that are ready and not passed over (`past`), the one with the highest priority value, the higher number among
+-- equals; `best` is the one so far, and `top` its priority. 64: none
+unfoldable pub choose : ℕ → ℕ → ℕ → ℕ → ℕ → ℕ → Act ℕ
+choose now past zero ch best top = done best
+choose now past (suc left) ch best top = do
+  is ← ready now ch
+  value ← ask (PRIORITY ch)
+  choose now past left (suc ch)
+      (cond (is && not (has past ch) && leb top value) ch best)
+      (cond (is && not (has past ch) && leb top value) value top)
+
+-- one minor loop: the channel's KICK bit goes; its pending is spent as before: not by START, and not by channel 35. Channel 35's pace applies to its
+-- one loop, if no START led to it; a pass that answers no counts 0. Does the pass answer yes
+unfoldable pub chipTurn : ℕ → ℕ → ℕ → Act Bool
+chipTurn now pace ch = do
+  change KICK (λ k. lose k ch)
+  t ← descriptor ch
+  when (not (has (t .csr) START) && not (eqb ch 35)) (change (PENDING ch) (λ count. count - 1))
+  went ← pass ch
+  when (not (has (t .csr) START) && eqb ch 35) (paced now pace (cond went (t .nbytes) 0))
+  done went
+
+-- then looks afresh; one whose pass answers no is passed over for the rest of the call
+unfoldable pub chipTurns : ℕ → ℕ → ℕ → ℕ → Act (Unit {0})
+chipTurns now pace zero past = nothing
+chipTurns now pace (suc n) past = do
+  ch ← choose now past 64 0 64 0
+  cond (ltb ch 64)
+      (do
+        went ← chipTurn now pace ch
+        chipTurns now pace n (cond went past (gain past ch)))
+      nothing
+
+-- ---- run
+
 unfoldable pub runAll : ℕ → ℕ → Act (Unit {0})
-runAll now pace = turns now pace runTurns
+runAll now pace = do
+  chip ← look CHIP
+  cond chip (chipTurns now pace runTurns 0) (turns now pace runTurns)
 
 -- ---- service
 
@@ -139,7 +191,7 @@ release now (suc left) ch m = do
   _ ← when (over now busy) (put (BUSY ch) 0)
   release now left (suc ch) (cond (over now busy && has erq ch) (gain m ch) m)
 
--- those channels, and all of DEFERRED, join KICK if they request or are in it; DEFERRED becomes 0; a run follows
+-- those channels, and all of DEFERRED, join KICK if they request or are in it; DEFERRED becomes 0; a run follows if KICK is not 0
 unfoldable pub serviceAll : ℕ → ℕ → Act (Unit {0})
 serviceAll now pace = do
   back ← release now 64 0 0
@@ -147,9 +199,10 @@ serviceAll now pace = do
   asking ← requesting
   put DEFERRED 0
   change KICK (λ k. bitOr k (bitAnd (bitOr back deferred) (bitOr asking k)))
-  runAll now pace
+  kick ← ask KICK
+  when (not (eqb kick 0)) (runAll now pace)
 
 -- on an `unfolding` line: all the definitions of this file
 unfoldable pub runs : Unit {0}
-unfolding requests offered waiting requesting startLoop startPasses lineLoop linePasses serveLine requestLoop requestPasses serve turn turns runTurns runAll over release serviceAll
+unfolding requests offered waiting requesting startLoop startPasses lineLoop linePasses paced serveLine requestLoop requestPasses serve turn turns runTurns ready choose chipTurn chipTurns runAll over release serviceAll
 runs = tt

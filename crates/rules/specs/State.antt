@@ -22,7 +22,10 @@ pub record Device : Type 0 where
   pub pending : List ℕ
   -- how often each vector was taken, from vector 64 on
   pub taken : List ℕ
+  -- by channel, in the chip's mode: priorities (document 02, [10])
+  pub priorities : List ℕ
   -- the descriptor table
   pub table : List ℕ
-  -- the setting: masks are ignored
+  -- the settings: masks are ignored; the mode is the chip's
   pub ignore : Bool
+  pub chip : Bool

@@ -33,15 +33,15 @@ module _ (base : ℕ) where
   unfoldable pub soundStore : Machine → Space → ℕ → ℕ → ℕ → Bool
   soundStore m sp w a v = legal sp w && there base sp a w m && ltb v (256 ^ w)
 
-  -- width 8, a number that names a field, a value that the field can hold
-  unfoldable pub soundField : ℕ → ℕ → ℕ → Bool
-  soundField w n v = eqb w 8 && fitsSome (fieldAt n) v
+  -- width 8, a number that names a field of the mode, a value that the field can hold
+  unfoldable pub soundField : Bool → ℕ → ℕ → ℕ → Bool
+  soundField chip w n v = eqb w 8 && fitsSome chip (fieldAt chip n) v
 
   -- kinds 0, 1 and 2; an end (3) inside the group is damage, and so is any other kind
   unfoldable pub soundKind : Machine → ℕ → ℕ → ℕ → ℕ → Bool
   soundKind m zero w a v = soundStore m window w a v
   soundKind m (suc zero) w a v = soundStore m table w a v
-  soundKind m (suc (suc zero)) w a v = soundField w a v
+  soundKind m (suc (suc zero)) w a v = soundField (m .dev .chip) w a v
   soundKind m (suc (suc (suc k))) w a v = false
 
   unfoldable pub sound : Machine → List ℕ → Bool

@@ -70,8 +70,10 @@ pub struct Device {
     pub majors: [u64; 64],
     pub taken: [u64; 192],
     pub pending: [u32; 64],
+    pub priorities: [u8; 64],
     pub controllers: [Controller; 3],
     pub ignore_masks: bool,
+    pub chip: bool,
 }
 
 // Why a call is refused, in the order of the documents' numbers: 1 to 13 of document 01, 14 of document 02.

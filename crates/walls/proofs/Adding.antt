@@ -20,7 +20,7 @@ use Rattle.walls.proofs.Leaving.{short}
 
 -- channel 5 has this count
 unfoldable pub counting : ℕ → Device
-counting n = withField (PENDING 5) n (fresh false)
+counting n = withField (PENDING 5) n (fresh false false)
 
 -- the number of a call that adds to it
 unfoldable pub adding : ℕ → ℕ → ℕ

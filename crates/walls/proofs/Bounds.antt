@@ -7,10 +7,10 @@ use Rattle.rules.specs.Calls.{write, inputs, pending, run, service, ack, fresh,
 use Rattle.walls.specs.Examples.{computed}
 
 -- sizes 0 to 5 and 8 of a read and a write of the table's first bytes
-pub sizes : wrongRead (fresh false) 0xFC045000 0
-    ∷ wrongRead (fresh false) 0xFC045000 1
-    ∷ wrongRead (fresh false) 0xFC045000 2
-    ∷ wrongRead (fresh false) 0xFC045000 3
+pub sizes : wrongRead (fresh false false) 0xFC045000 0
+    ∷ wrongRead (fresh false false) 0xFC045000 1
+    ∷ wrongRead (fresh false false) 0xFC045000 2
+    ∷ wrongRead (fresh false false) 0xFC045000 3
     ∷ wrong 0 0 0 0 (write 0xFC045000 4 0)
     ∷ wrong 0 0 0 0 (write 0xFC045000 5 0)
     ∷ wrong 0 0 0 0 (write 0xFC045000 8 0)
@@ -20,18 +20,18 @@ unfolding computed
 sizes = refl
 
 -- the last address before the blocks and the first after them; no such register; past the table, and in a controller past a word
-pub addresses : wrongRead (fresh false) 0xFC043FFF 1
-    ∷ wrongRead (fresh false) 0xFC054000 4
+pub addresses : wrongRead (fresh false false) 0xFC043FFF 1
+    ∷ wrongRead (fresh false false) 0xFC054000 4
     ∷ wrong 0 0 0 0 (write 0xFC043FFF 4 0)
     ∷ wrong 0 0 0 0 (write 0xFC054000 1 0)
     ∷ wrong 0 0 0 0 (write 0xFC044038 4 0)
-    ∷ wrongRead (fresh false) 0xFC044008 2
+    ∷ wrongRead (fresh false false) 0xFC044008 2
     ∷ wrong 0 0 0 0 (write 0xFC0457FE 2 0)
     ∷ wrong 0 0 0 0 (write 0xFC0457FE 4 0)
-    ∷ wrongRead (fresh false) 0xFC0457FF 2
+    ∷ wrongRead (fresh false false) 0xFC0457FF 2
     ∷ wrong 0 0 0 0 (write 0xFC05000A 2 0)
     ∷ wrong 0 0 0 0 (write 0xFC05000B 2 0)
-    ∷ wrongRead (fresh false) 0xFC05000B 2
+    ∷ wrongRead (fresh false false) 0xFC05000B 2
     ∷ []
     ≡ 2 ∷ 2 ∷ 2 ∷ 2 ∷ 3 ∷ 3 ∷ 0 ∷ 4 ∷ 4 ∷ 0 ∷ 4 ∷ 3 ∷ []
 unfolding computed

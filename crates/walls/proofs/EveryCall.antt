@@ -1,7 +1,7 @@
 -- Every act and the take-back have a wall (`ShutOut` says what it shuts out), the read two theorems of its own; and a fresh device. By
 -- computation. Assumes nothing.
-use mathlib.Core.Bool.{Bool, false}
-use mathlib.Core.List.{[], _∷_, _++_}
+use mathlib.Core.Bool.{Bool, true, false}
+use mathlib.Core.List.{List, [], _∷_, _++_}
 use mathlib.Core.Path.{_≡_, refl, sym, ap, _∙_}
 use Prim.Native.Nat.{ℕ}
 use borrow.Author.Tests.{eqb-false}
@@ -22,9 +22,9 @@ pub write-wall : Wall writes
 unfolding computed
 write-wall = record {
   first = (0xFC044000, 4, 0x80);
-  given = lent (fresh false) [] [];
+  given = lent (fresh false false) [] [];
   second = (0xFC04501E, 2, 1);
-  given₂ = lent (fresh false) [] [];
+  given₂ = lent (fresh false false) [] [];
   accepted = refl;
   accepted₂ = refl;
   differ = λ e. eqb-false 32 48 refl (ap (λ l. getD l 3 0) e);
@@ -36,9 +36,9 @@ pub inputs-wall : Wall gives
 unfolding computed
 inputs-wall = record {
   first = (1, 0, 0, 0);
-  given = lent (fresh false) [] [];
+  given = lent (fresh false false) [] [];
   second = (0, 0, 0, 0);
-  given₂ = lent (fresh false) [] [];
+  given₂ = lent (fresh false false) [] [];
   accepted = refl;
   accepted₂ = refl;
   differ = λ e. eqb-false 32 16 refl (ap (λ l. getD l 3 0) e);
@@ -50,9 +50,9 @@ pub pending-wall : Wall counts
 unfolding computed
 pending-wall = record {
   first = (63, 7);
-  given = lent (fresh false) [] [];
+  given = lent (fresh false false) [] [];
   second = (63, 0);
-  given₂ = lent (fresh false) [] [];
+  given₂ = lent (fresh false false) [] [];
   accepted = refl;
   accepted₂ = refl;
   differ = λ e. eqb-false 32 16 refl (ap (λ l. getD l 3 0) e);
@@ -66,7 +66,7 @@ run-wall = record {
   first = (0, 0);
   given = lent device₀ window₀ [];
   second = (0, 0);
-  given₂ = lent (fresh false) window₀ [];
+  given₂ = lent (fresh false false) window₀ [];
   accepted = refl;
   accepted₂ = refl;
   differ = λ e. eqb-false 192 16 refl (ap (λ l. getD l 3 0) e);
@@ -80,7 +80,7 @@ service-wall = record {
   first = (0, 0);
   given = lent (withField DEFERRED 1 (withField KICK 0 (requesting 0 1 (tcd 0x0202 4 1 1 0)))) window₀ [];
   second = (0, 0);
-  given₂ = lent (fresh false) window₀ [];
+  given₂ = lent (fresh false false) window₀ [];
   accepted = refl;
   accepted₂ = refl;
   differ = λ e. eqb-false 208 16 refl (ap (λ l. getD l 3 0) e);
@@ -94,7 +94,7 @@ acknowledge-wall = record {
   first = 7;
   given = lent ringing [] [];
   second = 7;
-  given₂ = lent (fresh false) [] [];
+  given₂ = lent (fresh false false) [] [];
   accepted = refl;
   accepted₂ = refl;
   differ = λ e. eqb-false 255 0 refl (ap (λ l. getD l 2 0) e);
@@ -108,7 +108,7 @@ back-wall = record {
   first = tt;
   given = standing;
   second = tt;
-  given₂ = record { base = 0x80000000; device = fresh false; window = window₀; staging = []; journal = endLine 0 ++ endLine 0; used = 32 };
+  given₂ = record { base = 0x80000000; device = fresh false false; window = window₀; staging = []; journal = endLine 0 ++ endLine 0; used = 32 };
   accepted = refl;
   accepted₂ = refl;
   differ = λ e. eqb-false 0 16 refl (ap (λ l. getD l 3 0) e);
@@ -118,7 +118,7 @@ back-wall = record {
 -- ---- a register read: CR of two devices
 
 unfoldable pub withCr : ℕ → Device
-withCr v = withField CR v (fresh false)
+withCr v = withField CR v (fresh false false)
 
 module _ (program : Device → ℕ → ℕ → ToldRead)
     (meets : program (withCr 0) 0xFC044000 4 ≡ afterRead (withCr 0) 0xFC044000 4)
@@ -139,11 +139,22 @@ module _ (program : Device → ℕ → ℕ → ToldRead)
   unfolding OneValue
   read-not-one-value wrong = eqb-false 0 1 refl (read-parts (sym reads-0 ∙ wrong (withCr 0) (withCr 1) _ _ _ _ ∙ reads-1) .1)
 
--- ---- a fresh device: table, setting, and the fields by their numbers: 7 is the deadline, 16, 20 and 24 the masks
+-- ---- a fresh device: table, settings, and the fields by their numbers: 7 is the deadline, 16, 20 and 24 the masks, 768 to 831 the priorities, which
+-- are the channels' own numbers in the chip's mode
 
-pub fresh-fields : (ignore : Bool) → (fresh ignore .table ≡ replicate 2048 0)
-    × (fresh ignore .ignore ≡ ignore)
-    × (fieldsOf (fresh ignore)
-    ≡ replicate 7 0 ++ 0xFFFFFFFFFFFFFFFF ∷ replicate 8 0 ++ 0xFFFFFFFFFFFFFFFF ∷ replicate 3 0 ++ 0xFFFFFFFFFFFFFFFF ∷ replicate 3 0 ++ 0xFFFFFFFFFFFFFFFF ∷ replicate 743 0)
-unfolding computed
-fresh-fields ignore = (refl, refl, refl)
+unfoldable pub own : Bool → List ℕ
+own true =
+    0 ∷ 1 ∷ 2 ∷ 3 ∷ 4 ∷ 5 ∷ 6 ∷ 7 ∷ 8 ∷ 9 ∷ 10 ∷ 11 ∷ 12 ∷ 13 ∷ 14 ∷ 15
+    ∷ 16 ∷ 17 ∷ 18 ∷ 19 ∷ 20 ∷ 21 ∷ 22 ∷ 23 ∷ 24 ∷ 25 ∷ 26 ∷ 27 ∷ 28 ∷ 29 ∷ 30 ∷ 31
+    ∷ 32 ∷ 33 ∷ 34 ∷ 35 ∷ 36 ∷ 37 ∷ 38 ∷ 39 ∷ 40 ∷ 41 ∷ 42 ∷ 43 ∷ 44 ∷ 45 ∷ 46 ∷ 47
+    ∷ 48 ∷ 49 ∷ 50 ∷ 51 ∷ 52 ∷ 53 ∷ 54 ∷ 55 ∷ 56 ∷ 57 ∷ 58 ∷ 59 ∷ 60 ∷ 61 ∷ 62 ∷ 63 ∷ []
+own false = replicate 64 0
+
+pub fresh-fields : (ignore chip : Bool) → (fresh ignore chip .table ≡ replicate 2048 0)
+    × (fresh ignore chip .ignore ≡ ignore)
+    × (fresh ignore chip .chip ≡ chip)
+    × (fieldsOf (fresh ignore chip)
+    ≡ replicate 7 0 ++ 0xFFFFFFFFFFFFFFFF ∷ replicate 8 0 ++ 0xFFFFFFFFFFFFFFFF ∷ replicate 3 0 ++ 0xFFFFFFFFFFFFFFFF ∷ replicate 3 0 ++ 0xFFFFFFFFFFFFFFFF ∷ replicate 743 0 ++ own chip)
+unfolding computed own
+fresh-fields ignore true = (refl, refl, refl, refl)
+fresh-fields ignore false = (refl, refl, refl, refl)

@@ -39,7 +39,7 @@ unfolding computed short leaving
 after-11 = refl
 
 -- and in a write, with room for the field's record alone
-pub write-after-11 : writes (0xFC044000, 4, 1) (short 31 (fresh false) [] (5 ∷ []))
-    ≡ told 11 Heard.Nothing (fresh false) [] (5 ∷ []) (replicate 16 0xAA ++ replicate 31 0) 16
+pub write-after-11 : writes (0xFC044000, 4, 1) (short 31 (fresh false false) [] (5 ∷ []))
+    ≡ told 11 Heard.Nothing (fresh false false) [] (5 ∷ []) (replicate 16 0xAA ++ replicate 31 0) 16
 unfolding computed short
 write-after-11 = refl

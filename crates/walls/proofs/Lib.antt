@@ -9,3 +9,4 @@ pub mod EndCount
 pub mod Bounds
 pub mod Registers
 pub mod Ringing
+pub mod Chip

@@ -15,7 +15,7 @@ use Rattle.walls.specs.Examples.{lent, written, computed}
 
 -- INT drives lines 8..23 of controller 0, 8..47 of controller 1 and line 0 of controller 2
 unfoldable pub driven : ℕ → List ℕ
-driven int = written (withField INT int (fresh false)) 0xFC044000 4 1 (LINES 0 ∷ LINES 1 ∷ LINES 2 ∷ [])
+driven int = written (withField INT int (fresh false false)) 0xFC044000 4 1 (LINES 0 ∷ LINES 1 ∷ LINES 2 ∷ [])
 
 pub lines-driven : driven 1 ∷ driven (2 ^ 15) ∷ driven (2 ^ 16) ∷ driven (2 ^ 55) ∷ driven (2 ^ 56) ∷ driven (2 ^ 63) ∷ []
     ≡ (2 ^ 8 ∷ 0 ∷ 0 ∷ [])
@@ -38,14 +38,14 @@ unfoldable pub heard : ℕ → Device → List ℕ
 heard ipl d = answerOf (hears ipl (lent d [] []))
 
 -- a masked line is not delivered, but where masks are ignored
-pub masked : heard 0 (lined 1 5 3 (fresh false)) ∷ heard 0 (lined 1 5 3 (fresh true)) ∷ [] ≡ (0 ∷ 0 ∷ 0 ∷ 16 ∷ []) ∷ (0 ∷ 3 ∷ 133 ∷ 32 ∷ []) ∷ []
+pub masked : heard 0 (lined 1 5 3 (fresh false false)) ∷ heard 0 (lined 1 5 3 (fresh true false)) ∷ [] ≡ (0 ∷ 0 ∷ 0 ∷ 16 ∷ []) ∷ (0 ∷ 3 ∷ 133 ∷ 32 ∷ []) ∷ []
 unfolding computed lined heard
 masked = refl
 
 -- of equal levels the higher controller, and in it the higher source; the highest level before both
-pub highest-heard : heard 0 (lined 0 9 4 (lined 1 5 4 (fresh true)))
-    ∷ heard 0 (lined 0 9 5 (lined 1 5 4 (fresh true)))
-    ∷ heard 0 (withField (SOURCE 2 7) 4 (withField (LINES 2) 0x180 (withField (SOURCE 2 8) 4 (fresh true))))
+pub highest-heard : heard 0 (lined 0 9 4 (lined 1 5 4 (fresh true false)))
+    ∷ heard 0 (lined 0 9 5 (lined 1 5 4 (fresh true false)))
+    ∷ heard 0 (withField (SOURCE 2 7) 4 (withField (LINES 2) 0x180 (withField (SOURCE 2 8) 4 (fresh true false))))
     ∷ []
     ≡ (0 ∷ 4 ∷ 133 ∷ 32 ∷ [])
     ∷ (0 ∷ 5 ∷ 73 ∷ 32 ∷ [])
@@ -55,7 +55,7 @@ unfolding computed lined heard
 highest-heard = refl
 
 -- a level at or below `ipl` is ignored, but 7; level 0 always
-pub ipl-looked-at : heard 3 (lined 1 5 3 (fresh true)) ∷ heard 2 (lined 1 5 3 (fresh true)) ∷ heard 7 (lined 1 5 7 (fresh true)) ∷ heard 0 (lined 1 5 8 (fresh true)) ∷ []
+pub ipl-looked-at : heard 3 (lined 1 5 3 (fresh true false)) ∷ heard 2 (lined 1 5 3 (fresh true false)) ∷ heard 7 (lined 1 5 7 (fresh true false)) ∷ heard 0 (lined 1 5 8 (fresh true false)) ∷ []
     ≡ (0 ∷ 0 ∷ 0 ∷ 16 ∷ [])
     ∷ (0 ∷ 3 ∷ 133 ∷ 32 ∷ [])
     ∷ (0 ∷ 7 ∷ 133 ∷ 32 ∷ [])

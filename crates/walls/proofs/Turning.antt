@@ -20,7 +20,7 @@ use Rattle.walls.proofs.Moving.{word, three}
 unfoldable pub rivals : Device
 rivals =
     withField KICK 3
-    (withTable (fresh false) (tcdBytes (moving 0 1 1 1 0x80000001 1) ++ tcdBytes (moving 0x0101 2 2 1 0x80000002 1) ++ replicate 1984 0))
+    (withTable (fresh false false) (tcdBytes (moving 0 1 1 1 0x80000001 1) ++ tcdBytes (moving 0x0101 2 2 1 0x80000002 1) ++ replicate 1984 0))
 
 -- the lowest set bit of KICK is served next: channel 1 reads what channel 0 stored
 pub lowest-first : windowTold (runs (0, 0) (lent rivals (0x11 ∷ 0x22 ∷ 0 ∷ 0 ∷ []) [])) ≡ replicate 4 0x11

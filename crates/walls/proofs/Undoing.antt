@@ -28,10 +28,10 @@ module _ (program : Unit {0} → Given → Told) (meets : program tt standing �
 
 -- a group of these records, made by hand
 unfoldable pub group : List ℕ → Given
-group records = record { base = 0x80000000; device = fresh false; window = 7 ∷ 8 ∷ []; staging = []; journal = records; used = length records }
+group records = record { base = 0x80000000; device = fresh false false; window = 7 ∷ 8 ∷ []; staging = []; journal = records; used = length records }
 
 unfoldable pub refusedWith : ℕ → List ℕ → Told
-refusedWith n records = told n Heard.Nothing (fresh false) (7 ∷ 8 ∷ []) [] records (length records)
+refusedWith n records = told n Heard.Nothing (fresh false false) (7 ∷ 8 ∷ []) [] records (length records)
 
 -- a value too wide for its field, or for its width, in its last byte of those that must be 0
 pub field-too-wide : takesBack tt (group (line 2 8 8 0x100 ++ endLine 1)) ≡ refusedWith 13 (line 2 8 8 0x100 ++ endLine 1)
@@ -61,6 +61,6 @@ unfolding computed group refusedWith
 none-stands = refl
 
 -- two stores to one place: undone last to first, what stood there first stands there again
-pub last-to-first : takesBack tt (group (line 0 1 0x80000001 5 ++ line 0 1 0x80000001 6 ++ endLine 2)) ≡ told 0 Heard.Nothing (fresh false) (7 ∷ 5 ∷ []) [] (replicate 48 0) 0
+pub last-to-first : takesBack tt (group (line 0 1 0x80000001 5 ++ line 0 1 0x80000001 6 ++ endLine 2)) ≡ told 0 Heard.Nothing (fresh false false) (7 ∷ 5 ∷ []) [] (replicate 48 0) 0
 unfolding computed group
 last-to-first = refl

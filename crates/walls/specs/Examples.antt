@@ -41,7 +41,7 @@ moving attr step nbytes count daddr csr = record {
 
 -- a fresh device in which one channel has this descriptor, and its KICK bit
 unfoldable pub with-channel : ℕ → Tcd → Device
-with-channel ch t = withField KICK (2 ^ ch) (withTable (fresh false) (replicate (32 * ch) 0 ++ tcdBytes t ++ replicate (2016 - 32 * ch) 0))
+with-channel ch t = withField KICK (2 ^ ch) (withTable (fresh false false) (replicate (32 * ch) 0 ++ tcdBytes t ++ replicate (2016 - 32 * ch) 0))
 
 -- and asks for that many passes: its ERQ bit and a pending count
 unfoldable pub requesting : ℕ → ℕ → Tcd → Device
