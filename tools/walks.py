@@ -6,9 +6,9 @@ A walk differs from another only in the list of parameters, in the fields that a
 
     fn F(d: &mut Device, PARAMS) -> u64 { let e = BY(*d, PARAMS); *d = e.device; e.answer }                                  gen
     fn F(d: &Device, PARAMS) -> u64 { BY(*d, PARAMS) }                                                                      gen_shr
-    fn F(d: &mut Device, PARAMS) -> u64 { let k = Core { .. }; let e = BY(k, .., &mut d.FIELD, ..); d.scalars = e.scalars;
+    fn F(d: &mut Device, PARAMS) -> u64 { let k = Short { .. }; let e = BY(k, .., &mut d.FIELD, ..); d.scalars = e.scalars;
                                           d.controllers = e.controllers; e.answer }                                         gen_lent
-    fn F(d: &mut Device, PARAMS) -> u64 { let k = Core { .. }; BY(k, .., &mut d.FIELD, ..) }                                gen_lent, not fed
+    fn F(d: &mut Device, PARAMS) -> u64 { let k = Short { .. }; BY(k, .., &mut d.FIELD, ..) }                                gen_lent, not fed
 
 PARAMS: ('u32' | 'u64', name), ('slice', name) for a `&mut [u8]`, ('shr', name) for a `&[u8]` (in gen only; it is given up: `stay-dropped`).
 BY is covered by the borrow checker. It answers a struct of `answer` and `device` in gen, of `answer`, `scalars` and `controllers` in gen_lent, else a
@@ -22,7 +22,9 @@ import sys
 
 W={'u32':'w32','u64':'w64'}
 # a device's fields, in the order of the struct
-FIELDS=['scalars','table','busy','majors','taken','pending','controllers','ignore_masks']
+FIELDS=['scalars','table','busy','majors','taken','pending','priorities','controllers','ignore_masks','chip']
+# those that an entry copies
+SHORT=['scalars','controllers','ignore_masks','chip']
 FNAME=lambda f:'«%s»'%f if '_' in f else f
 
 dash=lambda s:s.replace('_','-')
@@ -536,7 +538,7 @@ use Rattle·%(C)s·proofs.proofs.%(fn)s.Code as code
     return tidy('\n'.join(out)+'\n')
 
 # a device's arrays that can be lent: their row, and their place
-LENDS={'table':('u8',2048,72),'busy':('u64',64,2120),'majors':('u64',64,2632),'taken':('u64',192,3144),'pending':('u32',64,4680)}
+LENDS={'table':('u8',2048,72),'busy':('u64',64,2120),'majors':('u64',64,2632),'taken':('u64',192,3144),'pending':('u32',64,4680),'priorities':('u8',64,4936)}
 
 class Context:
     """The front of a context by names; the locals stand behind it, two places each, the last one first."""
@@ -564,7 +566,7 @@ class Context:
         s=' $ '.join(self.steps); self.steps=[]; return s
 
 def gen_lent(fn,by,params,lent,said,uses,fed=True,crate='direct'):
-    """fn F(d: &mut Device, PARAMS) -> u64 { let k = Core { .. }; let e = BY(k, .., &mut d.FIELD, ..); d.scalars = e.scalars; d.controllers = e.controllers; e.answer }
+    """fn F(d: &mut Device, PARAMS) -> u64 { let k = Short { .. }; let e = BY(k, .., &mut d.FIELD, ..); d.scalars = e.scalars; d.controllers = e.controllers; e.answer }
     lent: the fields lent. BY's parameters are the core, PARAMS and the fields, which stand behind the numbers and the window. said: what BY says, of an answer, the last
     lists of the fields and of the slices; and what the entry says. Where not fed, BY answers a number and nothing is stored."""
     C=crate; B=dash(by); F=dash(fn)
@@ -582,7 +584,7 @@ def gen_lent(fn,by,params,lent,said,uses,fed=True,crate='direct'):
     # locals
     locpar={n:2+i for i,(t,n) in enumerate(params)}
     L_k=2+len(params); L_e=L_k+1 if fed else 0; L_sc=L_k+(2 if fed else 1)
-    nxt=L_sc+3; L_lend={}; L_ref={}; L_sl={}
+    nxt=L_sc+len(SHORT); L_lend={}; L_ref={}; L_sl={}
     for t,n in refs:
         if t=='lend': L_lend[n]=nxt; nxt+=1
         else: L_ref[n]=nxt; L_sl[n]=nxt+1; nxt+=2
@@ -641,9 +643,9 @@ use Rattle.rules.specs.declared.Device.{Device}
 use Rattle.rules.proofs.Device as T
 use Rattle.rules.proofs.Device.Laws as T′
 use Rattle.rules.proofs.Each.{typed-proper}
-use Rattle.act.specs.declared.Core.{Core}
-use Rattle.act.proofs.Core as K
-use Rattle.act.proofs.Core.Laws as K′''')
+use Rattle·%(C)s·specs.specs.declared.Short.{Short}
+use Rattle·%(C)s·proofs.proofs.Short as K
+use Rattle·%(C)s·proofs.proofs.Short.Laws as K′'''%dict(C=C))
     for u in uses[0]: P(u)
     P('use Rattle.rules.specs.View.{view}')
     P(specs(C,uses[1]))
@@ -668,12 +670,12 @@ use Rattle·%(C)s·proofs.proofs.%(fn)s.Code as code
     P('By 𝓤 H A mem run = tripleOf 𝓤 H A by′.signature (by′.spec 𝓤 H A mem run)'); P('')
     kk=['κ%d'%i for i in range(nl)]; qq=['q%d'%i for i in range(nl)]
     arg,vals,ghost=entry(P,params,sl,kk,qq)
-    P('  -- its core')
-    P('  abbrev k : Core'); P('  k = record { scalars = h .scalars; controllers = h .controllers; «ignore_masks» = h .«ignore_masks» }'); P('')
+    P('  -- what is copied of it')
+    P('  abbrev k : Short'); P('  k = record { %s }'%'; '.join('%s = h .%s'%(FNAME(x),FNAME(x)) for x in SHORT)); P('')
     P('  abbrev mach-k : Val'); P('  mach-k = LL.tuple-val K.the-type K′.the-laws (K.the-type .to k)'); P('')
     fld=lambda n:'.1'+' .1'*(n-1)+' .0' if n else '.0'
     P('  core-is : Is T.the-row h (mach h ∷ []) → Is K.the-row k (mach-k ∷ [])')
-    P('  core-is g = let is = LL.owed T.the-type T′.the-laws h _ g in LL.owes K.the-type K′.the-laws k (is %s, (is %s, (is %s, tt)))'%(fld(0),fld(6),fld(7))); P('')
+    P('  core-is g = let is = LL.owed T.the-type T′.the-laws h _ g in LL.owes K.the-type K′.the-laws k %s'%tup(['is '+fld(FIELDS.index(x)) for x in SHORT])); P('')
     zf=['zs-'+f for f in lent]; zl=['zs-'+n for n in sl]
     dev=lambda z,core:'record { '+'; '.join('%s = %s'%(FNAME(x),z[x] if x in z else ('r .%s'%x if core and fed and x in('scalars','controllers') else 'h .%s'%FNAME(x))) for x in FIELDS)+' }'
     sig=' → '.join(['List ℕ']*len(lent))
@@ -755,10 +757,12 @@ use Rattle·%(C)s·proofs.proofs.%(fn)s.Code as code
     P('        move ! (1 ∷ []) $ peeks ! T.the-row (Is T.the-row) (shows 𝓤 H A T.the-row) h (mach h ∷ []) (λ g. move ! (1 ∷ 0 ∷ []) $'); close+=1
     P("        -- [the device's cell; what a Device owns; the open borrow; obs; auth; the other tokens; what the other parameters own; _%d; …; _1; …; room for _0; …]"%(nloc-1))
     c=Context(nloc,['cell','own','open','obs','auth','tok','rest'])
-    for i,(x,l) in enumerate((('scalars',L_sc),('controllers',L_sc+1),('ignore_masks',L_sc+2))):
-        kf=FIELDS.index(x)
+    for i,x in enumerate(SHORT):
+        kf=FIELDS.index(x); l=L_sc+i
         P('        assigns ! (of-opd ! (load ! (from ! (hop ! (look ! %d refl) (fld ! refl (stop !)))) (look-in ! 0 (sub ! %d refl (whole !))))) (from ! (stop !)) (init ! %d refl (T′.the-laws %s .lawful 𝓤 H A W .typed (T.the-type .to h %s) _ (LL.owed T.the-type T′.the-laws h _ g %s) .0)) $'%(c.local(1),kf,c.local(l),fld(kf),fld(kf),fld(kf)))
-    P('        assigns ! (agg ! (and-then ! (load ! (from ! (stop !)) (look ! %d refl)) (and-then ! (load ! (from ! (stop !)) (look ! %d refl)) (and-then ! (load ! (from ! (stop !)) (look ! %d refl)) (no-more !))))) (from ! (stop !)) (init ! %d refl (LL.lawful K.the-type K′.the-laws 𝓤 H A W .typed k _ (core-is g) .0)) $'%(c.local(L_sc),c.local(L_sc+1),c.local(L_sc+2),c.local(L_k)))
+    loads='no-more !'
+    for i in reversed(range(len(SHORT))): loads='and-then ! (load ! (from ! (stop !)) (look ! %d refl)) (%s)'%(c.local(L_sc+i),loads)
+    P('        assigns ! (agg ! (%s)) (from ! (stop !)) (init ! %d refl (LL.lawful K.the-type K′.the-laws 𝓤 H A W .typed k _ (core-is g) .0)) $'%(loads,c.local(L_k)))
     for t,n in refs:
         if t=='lend': P('        assigns ! (addr ! (from ! (hop ! (look ! %d refl) (fld ! refl (stop !))))) (from ! (stop !)) (init ! %d refl (tt, tt)) $'%(c.local(1),c.local(L_lend[n])))
         else:
@@ -881,11 +885,11 @@ def turns(call):
 back=lambda r,x,z:'left (%s .answer) (view (%s)) %s [] %s ≡ leftOf (afterBack base (view h) ys-w ys-j u)'%(r,x,z['w'],z['j'])
 
 J=('slice','j'); U=('u64','u'); RUN=[('u64','t'),('u64','p'),('u32','base'),('slice','w'),('slice','s'),J,U]
-RUNS=['table','busy','majors','pending']
+RUNS=['table','busy','majors','pending','priorities']
 # entries that lend fields: name, parameters, the fields, what is said, what the proof names of rules' Calls, of act's Parts and of specs, whether numbers and
 # controllers come back
 LENT=[
- ('write',[('u32','n'),('u32','m'),('u32','v'),J,U],['table','pending'],aside('writeCall n m v','Feeds',lambda f:'tabled (counted x %s) %s'%(f('pending'),f('table'))),([CALLS%'write as writeCall',PARTS%'Arrays, arraysOf, tabled, counted'],['Aside','Feeds']),True),
+ ('write',[('u32','n'),('u32','m'),('u32','v'),J,U],['table','pending','priorities'],aside('writeCall n m v','Feeds',lambda f:'ordered (tabled (counted x %s) %s) %s (h .chip)'%(f('pending'),f('table'),f('priorities'))),([CALLS%'write as writeCall',PARTS%'Arrays, arraysOf, ordered, tabled, counted'],['Aside','Feeds']),True),
  ('inputs',[('u64','n'),('u64','m'),('u64','v'),('u64','y'),J,U],['pending'],aside('inputsCall n m v y','Feeds',lambda f:'counted x %s'%f('pending')),([CALLS%'inputs as inputsCall',PARTS%'Arrays, arraysOf, counted'],['Aside','Feeds']),True),
  ('pending',[('u32','n'),('u32','m'),J,U],['pending'],aside('pendingCall n m','Feeds',lambda f:'counted x %s'%f('pending')),([CALLS%'pending as pendingCall',PARTS%'Arrays, arraysOf, counted'],['Aside','Feeds']),True),
  ('acknowledge',[('u32','n'),J,U],['taken'],aside('ack (n % 2 ^ 8)','Heeds',lambda f:'taking x %s'%f('taken')),(['use Prim.Native.Nat.{_%_}',CALLS%'ack',PARTS%'Arrays, arraysOf, taking'],['Aside','Heeds']),False),
@@ -894,7 +898,7 @@ LENT=[
 ]
 # entries that store the device whole: name, parameters, what it says, what the proof names
 TABLE=[
- ('fresh',[('u32','n')],lambda r,x,z:'left (%s .answer) (view (%s)) [] [] [] ≡ freshBy (view h) n'%(r,x),([],['left','freshBy'])),
+ ('fresh',[('u32','n'),('u32','m')],lambda r,x,z:'left (%s .answer) (view (%s)) [] [] [] ≡ freshBy (view h) n m'%(r,x),([],['left','freshBy'])),
  ('load',[('shr','i')],lambda r,x,z:'left (%s .answer) (view (%s)) [] [] [] ≡ loadedBy (view h) ys-i'%(r,x),([],['left','loadedBy'])),
  ('take_back',[('u32','base'),('slice','w'),J,U],back,([CALLS%'afterBack'],['left','leftOf'])),
 ]
@@ -905,31 +909,33 @@ SHARED=[
  ('save',[('slice','i')],lambda r,z:'saved %s %s ≡ savedBy (view h) ys-i'%(r,z['i']),([],['saved','savedBy'])),
 ]
 
-# the functions that they call, on a device in parts: name, callee, the call, its arguments, how far back the callee stands in the proof's places, and the
-# arguments; how many slices
+# the functions that they call, on a device in parts: name, callee, the call, its arguments, how far back the callee stands in the proof's places, the core
+# and the arguments; how many slices; which part of the callee's promise is meant; the arrays before and after it
+COUNTED='(counted x _)'; WORKED='(working (ordered x (a .priorities .now) (a .k .chip)) _ _ _ _)'; WRITTEN='(ordered (tabled (counted x _) _) (%s) (a .k .chip))'
 BYS=[
- ('write','write_in','write',['address','size','value'],3,8,1),
- ('inputs','inputs_in','inputs',['standing','lines0','lines1','lines2'],3,7,1),
- ('pending','pending_in','pending',['channel','count'],3,7,1),
- ('run','run_in','run',['time','pace'],7,18,3),
- ('service','run_in','service',['time','pace'],7,18,3),
+ ('write','write_in','write',['address','size','value'],3,8,10,1,' .0',(WRITTEN%'a .priorities .now',WRITTEN%('c .before .before .before .write-in .last'+' .1'*7+' .0'))),
+ ('inputs','inputs_in','inputs',['standing','lines0','lines1','lines2'],3,6,8,1,'',(COUNTED,COUNTED)),
+ ('pending','pending_in','pending',['channel','count'],3,6,8,1,'',(COUNTED,COUNTED)),
+ ('run','run_in','run',['time','pace'],7,16,20,3,'',(WORKED,WORKED)),
+ ('service','run_in','service',['time','pace'],7,16,20,3,'',(WORKED,WORKED)),
 ]
 
-def by_proof(name,callee,call,args,at,top,slices):
+def by_proof(name,callee,call,args,at,core,top,slices,part,arrays):
     b=lambda n:'c'+' .before'*n
     cn=callee.replace('_','-')
-    needs=[cn+'-requires','handed-back-requires']
+    needs=['core-in-requires',cn+'-requires','handed-back-requires']
     lens=['same-length']+['same-length-%d'%i for i in range(2,slices+1)]
     L=['-- `direct::%s_by` meets its contract, from that of the call on a device in parts. Assumes nothing.'%name,
-       'use Rattle.direct.proofs.Laws.{fed-left}','use Rattle.rules.specs.Calls.{%s}'%call,'use borrow.Author.Needs.{needs}',
+       'use Rattle.direct.proofs.Laws.{proper-core, fed-left}','use Rattle.rules.specs.Calls.{%s}'%call,'use Rattle.act.specs.Parts.{%s}'%', '.join(n for n in ('ordered','tabled','counted','working') if n in arrays[0]),'use borrow.Author.Needs.{needs}',
        'use Rattle.direct.proofs.%s_by.Statement.{statement}'%name,'use Rattle.direct.proofs.%s_by.Tie as tie'%name,'']
     for n in needs: L+=['%s : tie.Need-%s'%(n,n),'%s c κs = search needs'%n,'']
     for n in lens: L+=['%s : tie.Need-%s'%(n,n),'%s c = search needs'%n,'']
     if slices==1: bound,base,lists=' base w s','base','w s _ w s _'
     else: bound,base,lists='','(a .base)','_ _ _ _ _ _'
     L+=['returns : tie.Need-returns','returns c x proper%s ='%bound,'    let a = %s .args in'%b(top),
-        '    fed-left (%s) (a .k) (%s .%s .result) (c .handed-back .result) _ _ %s %s (a .used)'%(' '.join([call]+['(a .%s)'%z for z in args]),b(at),cn,base,lists),
-        '    (%s .%s .ensures x proper%s) (c .handed-back .ensures)'%(b(at),cn,bound),'',
+        '    let core = %s .core-in in'%b(core),
+        '    fed-left (%s) (a .k) (core .result) (core .ensures) (%s .%s .result) (c .handed-back .result) %s %s %s %s (a .used)'%(' '.join([call]+['(a .%s)'%z for z in args]),b(at),cn,arrays[0],arrays[1],base,lists),
+        '    (%s .%s .ensures%s x (proper-core (a .k) (core .result) %s (core .ensures) proper)%s) (c .handed-back .ensures)'%(b(at),cn,part,arrays[0],bound),'',
         'pub %s-by-spec : {M : Type 1} → statement M'%name,'%s-by-spec = tie.close (tie.spec %s)'%(name,' '.join(needs+lens+['returns']))]
     return '\n'.join(L)+'\n'
 

@@ -3,7 +3,7 @@ use mathlib.Core.Path.{refl, _∙_}
 use Prim.Native.Nat.{ℕ, _%_, _^_, _<_}
 use Rattle.rules.specs.Act.{Act, Field, done, ask, put, change, _>>=_, _>>_}
 use Rattle.rules.specs.Carry.{go, withDevice}
-use Rattle.rules.specs.Fields.{bitsOf, holds, withField}
+use Rattle.rules.specs.Fields.{bitsIn, holds, withField}
 use Rattle.rules.specs.State.{Device}
 use Rattle.rules.proofs.Steps.{bind-ok, put-does, change-does}
 use Rattle.act.specs.Does.{beside, Answers, Does}
@@ -19,16 +19,16 @@ module _ (d : Device) where
   unfolding Answers go ask
   answers-ask f base lent mem used free = refl
 
-  -- a field gets a value, cut to its bits; and one within them
-  pub does-cut : (f : Field) (v : ℕ) → Does (put f v) d (withField f (v % 2 ^ bitsOf f) d)
+  -- a field gets a value, cut to its bits in the mode; and one within them
+  pub does-cut : (f : Field) (v : ℕ) → Does (put f v) d (withField f (v % 2 ^ bitsIn (d .chip) f) d)
   unfolding Answers go put withDevice
   does-cut f v base lent mem used free = refl
 
-  pub does-put : (f : Field) (v : ℕ) → v < 2 ^ bitsOf f → Does (put f v) d (withField f v d)
+  pub does-put : (f : Field) (v : ℕ) → v < 2 ^ bitsIn (d .chip) f → Does (put f v) d (withField f v d)
   unfolding Answers withDevice
   does-put f v h base lent mem used free = put-does base lent (beside mem used free d) f v h
 
-  pub does-change : (f : Field) (g : ℕ → ℕ) → g (holds f d) < 2 ^ bitsOf f → Does (change f g) d (withField f (g (holds f d)) d)
+  pub does-change : (f : Field) (g : ℕ → ℕ) → g (holds f d) < 2 ^ bitsIn (d .chip) f → Does (change f g) d (withField f (g (holds f d)) d)
   unfolding Answers withDevice
   does-change f g h base lent mem used free = change-does base lent (beside mem used free d) f g h
 

@@ -1,5 +1,6 @@
 -- A device in parts: its core, which is handed on by value, and its long arrays, which are lent; and what a call on it promises.
 -- Assumes nothing.
+use mathlib.Core.Bool.{Bool}
 use mathlib.Core.List.{List}
 use mathlib.Core.Path.{_≡_}
 use Prim.Native.Nat.{ℕ}
@@ -14,7 +15,7 @@ use Rattle.rules.proofs.ViewLaws.{noHeld}
 use Rattle.act.specs.declared.Core.{Core}
 use Rattle.act.specs.declared.Done.{Done}
 
--- ---- the arrays
+-- ---- the arrays, and the mode, which no call changes
 
 pub record Arrays : Type 0 where
   pub table : List ℕ
@@ -22,19 +23,25 @@ pub record Arrays : Type 0 where
   pub majors : List ℕ
   pub pending : List ℕ
   pub taken : List ℕ
+  pub priorities : List ℕ
+  pub chip : Bool
 
--- these with another table; other pending counts; another table, other busy times, majors and pending counts; other taken counts
+-- these with another table; other pending counts; another table, other busy times, majors and pending counts; other taken counts; other
+-- priorities, and the mode
 abbrev pub tabled : Arrays → List ℕ → Arrays
-tabled x t = record { table = t; busy = x .busy; majors = x .majors; pending = x .pending; taken = x .taken }
+tabled x t = record { table = t; busy = x .busy; majors = x .majors; pending = x .pending; taken = x .taken; priorities = x .priorities; chip = x .chip }
 
 abbrev pub counted : Arrays → List ℕ → Arrays
-counted x p = record { table = x .table; busy = x .busy; majors = x .majors; pending = p; taken = x .taken }
+counted x p = record { table = x .table; busy = x .busy; majors = x .majors; pending = p; taken = x .taken; priorities = x .priorities; chip = x .chip }
 
 abbrev pub working : Arrays → List ℕ → List ℕ → List ℕ → List ℕ → Arrays
-working x t b m p = record { table = t; busy = b; majors = m; pending = p; taken = x .taken }
+working x t b m p = record { table = t; busy = b; majors = m; pending = p; taken = x .taken; priorities = x .priorities; chip = x .chip }
 
 abbrev pub taking : Arrays → List ℕ → Arrays
-taking x t = record { table = x .table; busy = x .busy; majors = x .majors; pending = x .pending; taken = t }
+taking x t = record { table = x .table; busy = x .busy; majors = x .majors; pending = x .pending; taken = t; priorities = x .priorities; chip = x .chip }
+
+abbrev pub ordered : Arrays → List ℕ → Bool → Arrays
+ordered x o chip = record { table = x .table; busy = x .busy; majors = x .majors; pending = x .pending; taken = x .taken; priorities = o; chip = chip }
 
 -- ---- the device
 
@@ -46,8 +53,10 @@ held k x = record {
   majors = x .majors;
   taken = x .taken;
   pending = x .pending;
+  priorities = x .priorities;
   controllers = k .controllers;
   «ignore_masks» = k .«ignore_masks»;
+  chip = x .chip;
 }
 
 -- its parts
@@ -55,7 +64,7 @@ abbrev pub coreOf : HeldDevice → Core
 coreOf d = record { scalars = d .scalars; controllers = d .controllers; «ignore_masks» = d .«ignore_masks» }
 
 abbrev pub arraysOf : HeldDevice → Arrays
-arraysOf d = record { table = d .table; busy = d .busy; majors = d .majors; pending = d .pending; taken = d .taken }
+arraysOf d = record { table = d .table; busy = d .busy; majors = d .majors; pending = d .pending; taken = d .taken; priorities = d .priorities; chip = d .chip }
 
 -- what it stands for
 abbrev pub whole : Core → Arrays → Device

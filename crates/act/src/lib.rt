@@ -40,7 +40,7 @@ pub enum Walk {
 
 // ---- a device in parts
 
-// What of a device is short: its numbers, its controllers and the setting. A call hands it on by value; the long arrays are lent to whom they
+// What of a device is short: its numbers, its controllers and whether masks are ignored. A call hands it on by value; the long arrays are lent to whom they
 // concern.
 pub struct Core {
     pub scalars: Scalars,
@@ -75,8 +75,10 @@ pub fn device_of(
     majors: [u64; 64],
     pending: [u32; 64],
     taken: [u64; 192],
+    priorities: [u8; 64],
+    chip: bool,
 ) -> Device
-    ensures { λ r. ⌜ r ≡ held k (record { table = table; busy = busy; majors = majors; pending = pending; taken = taken }) ⌝ }
+    ensures { λ r. ⌜ r ≡ held k (record { table = table; busy = busy; majors = majors; pending = pending; taken = taken; priorities = priorities; chip = chip }) ⌝ }
 {
     let scalars = k.scalars;
     let controllers = k.controllers;
@@ -87,7 +89,9 @@ pub fn device_of(
         majors,
         taken,
         pending,
+        priorities,
         controllers,
         ignore_masks: k.ignore_masks,
+        chip,
     }
 }

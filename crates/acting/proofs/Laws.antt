@@ -14,7 +14,6 @@ use Rattle.rules.specs.State.{Device}
 use Rattle.rules.specs.declared.Heard.{Heard}
 use Rattle.rules.specs.declared.Heard.the-variants as Heard
 use Rattle.rules.specs.declared.Refusal.{Refusal}
-use Rattle.rules.specs.declared.Refusal.the-variants as Refusal
 use Rattle.rules.specs.declared.Verdict.{Verdict}
 use Rattle.rules.specs.declared.Verdict.the-variants as Verdict
 use Rattle.rules.proofs.Each.{Proper}
@@ -36,7 +35,7 @@ use Rattle.closing.specs.Closes.{noting, addAll, addEnd, Notes, Part, coreIn, l
 use Rattle.closing.specs.declared.Noted.{Noted}
 use Rattle.closing.specs.declared.Noted.the-variants.{At, Full}
 use Rattle.closing.proofs.Group.{group-closes, closes, all-full-so}
-use Rattle.closing.proofs.Parts.{same, same-part, same-busy, same-majors, same-pending, all-noted}
+use Rattle.closing.proofs.Parts.{same, same-part, same-busy, same-majors, same-pending, same-taken, all-noted}
 use Rattle.controllers.specs.Works.{Works}
 use Rattle.acting.specs.declared.Reached.{Reached}
 use Rattle.acting.specs.Ending.{arrivedAt, arrived, endAt, Later, Since, begunAt, doneAt, doneBy, refusedBy, clearedFrom, remaining, Settled}
@@ -212,7 +211,7 @@ module _ (k : Core) (s : Reached) (x : Arrays) (t : List ℕ) (p : Proper (whole
   core-noted e f g h =
       h
       ∙ ap (addEnd used)
-      (all-noted k (s .core) x (tabled x t) b j f (same-busy k x p t₁ j₁) (same-majors k x p t₁ j₁) (same-pending k x p t₁ j₁) g (same 576 (x .taken) t₂ j₂)
+      (all-noted k (s .core) x (tabled x t) b j f (same-busy k x p t₁ j₁) (same-majors k x p t₁ j₁) (same-pending k x p t₁ j₁) g (same-taken k x p t₂ j₂) refl
       ∙ ap (λ (q : Noted). addAll (changed 0 (fieldsOf (whole k x)) (fieldsOf (whole (s .core) (tabled x t)))) (noting q j)) e)
 
 -- what stands after a call, by its verdict; and the other way round
@@ -258,7 +257,7 @@ module _ (k : Core) (s : Reached) (x : Arrays) (p : Proper (whole k x)) (q : Lis
   counts-noted e same-sources f g h =
       h
       ∙ ap (addEnd used)
-      (all-noted k (s .core) x (counted x q) b j f (same-busy k x p t₁ j₁) (same-majors k x p t₁ j₁) g (same-part k (s .core) x p same-sources t₂ j₂) (same 576 (x .taken) t₂ j₂)
+      (all-noted k (s .core) x (counted x q) b j f (same-busy k x p t₁ j₁) (same-majors k x p t₁ j₁) g (same-part k (s .core) x p same-sources t₂ j₂) (same-taken k x p t₂ j₂) refl
       ∙ ap (λ (z : Noted). addAll (changed 0 (fieldsOf (whole k x)) (fieldsOf (whole (s .core) (counted x q)))) (noting z j)) e)
 
 -- of one that changed taken counts alone
@@ -269,4 +268,4 @@ module _ (k : Core) (x : Arrays) (p : Proper (whole k x)) (q : List ℕ) (used a
       h
       ∙ ap (addEnd used)
       (all-noted k k x (taking x q) (At at) j (same 0 (coreIn k) (At at) j) (same-busy k x p (At at) j) (same-majors k x p (At at) j) (same-pending k x p (At at) j)
-      (same-part k k x p (record { first = refl; second = refl; third = refl }) (At at) j) (g .noted))
+      (same-part k k x p (record { first = refl; second = refl; third = refl }) (At at) j) g refl)

@@ -13,10 +13,9 @@ use Rattle.rules.specs.Carry.{Machine, made, unmade}
 use Rattle.rules.specs.TakeBack.{kind, width, place, value, marked, ends, allSound, takeGroup, takeLast, takeEnd, takeBack}
 use Rattle.rules.proofs.BytesLaws.{getD-part, part-part}
 use Rattle.rules.proofs.Cut.{part-cut}
-use Rattle.memory.specs.Places.{holding}
-use Rattle.scan.specs.Heads.{Scanned}
+use Rattle.scan.specs.Heads.{Scanned, scanning}
 use Rattle.scan.proofs.HeadLaws.{number-one}
-use Rattle.scan.proofs.Laws.{table-holding}
+use Rattle.scan.proofs.Laws.{table-scanning, mode-scanning}
 use Rattle.back.specs.Standing.{machine, journalled, takenBack, Finds}
 use Rattle.back.specs.declared.Standing.the-variants.{Group, Damaged}
 
@@ -32,7 +31,7 @@ end-is l at =
 
 -- ---- the last group: its end says that it has n records before it
 
-module _ (base : ℕ) (w l : List ℕ) (some : 16 ≤ length l) where
+module _ (chip : Bool) (base : ℕ) (w l : List ℕ) (some : 16 ≤ length l) where
   last-record : drop (length l - 16) l ≡ part l (length l - 16) 16
   last-record =
       sym (part-cut l (length l - 16) 16 (omega arith) ∙ take-all 16 (drop (length l - 16) l) (omega (arith, length-drop (length l - 16) l)))
@@ -76,20 +75,20 @@ module _ (base : ℕ) (w l : List ℕ) (some : 16 ≤ length l) where
         undone s = its-bytes ∙ rw (s, takeGroup) (rw (length-drop (length l - 16 - n * 16) l) refl)
 
   -- what the code answers
-  pub no-end : ends (part l (length l - 16) 16) ≡ false → Finds base w l Damaged
-  no-end e d free long = no-group (machine w d) free e
+  pub no-end : ends (part l (length l - 16) 16) ≡ false → Finds chip base w l Damaged
+  no-end e d free mode long = no-group (machine w d) free e
 
   module _ (e : ends (part l (length l - 16) 16) ≡ true) {n : ℕ} (said : n ≡ number (part l (length l - 16 + 8) 8)) where
-    pub too-long : (length l - 16) / 16 < n → Finds base w l Damaged
-    too-long h d free long = longer (machine w d) free e n said h
+    pub too-long : (length l - 16) / 16 < n → Finds chip base w l Damaged
+    too-long h d free mode long = longer (machine w d) free e n said h
 
-    module _ (h : n ≤ (length l - 16) / 16) {r : Bool} (scanned : Scanned r base w n (drop (length l - 16 - n * 16) l)) where
-      pub some-damaged : r ≡ false → Finds base w l Damaged
-      some-damaged s d free long = damaged (machine w d) free e n said h (sym (scanned d long) ∙ s)
+    module _ (h : n ≤ (length l - 16) / 16) {r : Bool} (scanned : Scanned r chip base w n (drop (length l - 16 - n * 16) l)) where
+      pub some-damaged : r ≡ false → Finds chip base w l Damaged
+      some-damaged s d free mode long = damaged (machine w d) free e n said h (sym (scanned d mode long) ∙ s)
 
-      pub all-sound : r ≡ true → Finds base w l (Group (length l - 16 - n * 16) n)
-      unfolding holding
+      pub all-sound : r ≡ true → Finds chip base w l (Group (length l - 16 - n * 16) n)
+      unfolding scanning
       all-sound s = (
-        record { long = omega arith; sound = sym (scanned (holding w .dev) (table-holding w)) ∙ s },
-        λ d free long. undone (machine w d) free e n said h (sym (scanned d long) ∙ s),
+        record { long = omega arith; sound = sym (scanned (scanning chip w .dev) (mode-scanning chip w) (table-scanning chip w)) ∙ s },
+        λ d free mode long. undone (machine w d) free e n said h (sym (scanned d mode long) ∙ s),
       )

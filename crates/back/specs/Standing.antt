@@ -1,5 +1,5 @@
 -- The last journalled group of a used journal, and what a take-back does with it. Assumes nothing.
-use mathlib.Core.Bool.{true}
+use mathlib.Core.Bool.{Bool, true}
 use mathlib.Core.List.{List, _++_}
 use mathlib.Core.Path.{_≡_}
 use Prim.Native.Nat.{ℕ, _+_, _-_, _*_}
@@ -9,7 +9,7 @@ use Rattle.rules.specs.Fields.{withNumber}
 use Rattle.rules.specs.TakeBack.{allSound, decodeAll, takeBack}
 use Rattle.rules.specs.With.{withTable}
 use Rattle.rules.specs.State.{Device}
-use Rattle.memory.specs.Places.{holding}
+use Rattle.scan.specs.Heads.{scanning}
 use Rattle.back.specs.declared.Standing.{Standing}
 use Rattle.back.specs.declared.Standing.the-variants.{Group, Damaged}
 
@@ -29,18 +29,19 @@ takenBack base u from n = record {
 }
 
 -- a sound group of n records before its end, from index `from` on: its bytes are all there
-pub record Sound (base : ℕ) (w used : List ℕ) (from n : ℕ) : Type 0 where
+pub record Sound (chip : Bool) (base : ℕ) (w used : List ℕ) (from n : ℕ) : Type 0 where
   pub long : from + (n + 1) * 16 ≡ length used
-  pub sound : allSound base (holding w) n (drop from used) ≡ true
+  pub sound : allSound base (scanning chip w) n (drop from used) ≡ true
 
--- what was found to stand last, in a window w and a used journal, and what it makes of a take-back. Of the table only its length counts
-abbrev pub Finds : ℕ → List ℕ → List ℕ → Standing → Type 0
-Finds base w used (Group from n) =
-    Sound base w used from n
-    × ((d : Device) (free : List ℕ) → length (d .table) ≡ 2048
+-- what was found to stand last, in a mode, a window w and a used journal, and what it makes of a take-back. Of a device only its mode and the length of
+-- its table count
+abbrev pub Finds : Bool → ℕ → List ℕ → List ℕ → Standing → Type 0
+Finds chip base w used (Group from n) =
+    Sound chip base w used from n
+    × ((d : Device) (free : List ℕ) → d .chip ≡ chip → length (d .table) ≡ 2048
     → takeBack base (journalled (machine w d) used free) ≡ made tt (takenBack base (journalled (machine w d) used free) from n))
-Finds base w used Damaged =
-    (d : Device) (free : List ℕ) → length (d .table) ≡ 2048
+Finds chip base w used Damaged =
+    (d : Device) (free : List ℕ) → d .chip ≡ chip → length (d .table) ≡ 2048
     → takeBack base (journalled (machine w d) used free) ≡ unmade 13 (journalled (machine w d) used free)
 
 -- a record undone where it is a store's, and nothing done where it is a field's; and the other way round

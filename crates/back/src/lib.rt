@@ -12,12 +12,12 @@ ghost use lib.ListN.{length, drop};
 ghost use lib.Dec.{ltb};
 ghost use Rattle.rules.specs.View.{view};
 ghost use Rattle.rules.specs.Bytes.{part};
-ghost use Rattle.rules.specs.Calls.{afterBack, toldActed};
+ghost use Rattle.rules.specs.Calls.{Spared, afterBack, toldActed};
 ghost use Rattle.rules.specs.Carry.{undo};
 ghost use Rattle.rules.specs.Fields.{fieldAt, fitsSome, withNumber};
 ghost use Rattle.rules.specs.TakeBack.{ends, kind, place, value, allSound, decodeAll};
 ghost use Rattle.rules.specs.declared.Verdict.the-variants as How;
-ghost use Rattle.memory.specs.Places.{holding};
+ghost use Rattle.scan.specs.Heads.{scanning};
 ghost use Rattle.back.specs.Standing.{Finds, machine};
 
 // What stands last in the used journal: a sound group, where it starts and how many records it has before its end; or damage.
@@ -46,9 +46,9 @@ fn is_end(stands: &[u8], at: usize) -> bool
 }
 
 // "Damaged: no valid end, .. a group longer than the used part", and what the scan finds.
-fn last_group(base: u32, window: &[u8], stands: &[u8]) -> Standing
+fn last_group(chip: bool, base: u32, window: &[u8], stands: &[u8]) -> Standing
     requires { ⌜ 16 ≤ length (now stands) ⌝ }
-    ensures { λ r. ⌜ Finds base (now (window .entry)) (now (stands .entry)) r ⌝ }
+    ensures { λ r. ⌜ Finds chip base (now (window .entry)) (now (stands .entry)) r ⌝ }
 {
     let end = stands.len() - 16;
     if !is_end(stands, end) {
@@ -61,7 +61,7 @@ fn last_group(base: u32, window: &[u8], stands: &[u8]) -> Standing
     }
     let count = told as usize;
     let from = end - count * 16;
-    if !scan::all_sound(base, window, stands, from, count) {
+    if !scan::all_sound(chip, base, window, stands, from, count) {
         return Standing::Damaged;
     }
     Standing::Group(from, count)
@@ -79,7 +79,7 @@ fn is_field(stands: &[u8], at: usize) -> bool
 
 // The record of a field undone.
 fn undo_field(d: Device, stands: &[u8], at: usize) -> Device
-    requires { ⌜ (at + 16 ≤ length (now stands)) × (fitsSome (fieldAt (place (part (now stands) at 16))) (value (part (now stands) at 16)) ≡ true) ⌝ }
+    requires { ⌜ (at + 16 ≤ length (now stands)) × (fitsSome (d .chip) (fieldAt (d .chip) (place (part (now stands) at 16))) (value (part (now stands) at 16)) ≡ true) ⌝ }
     ensures { λ r. ⌜ view r ≡ withNumber (place (part (now (stands .entry)) at 16)) (value (part (now (stands .entry)) at 16)) (view d) ⌝ }
 {
     let n = words::get4(stands, at + 4) as usize;
@@ -96,7 +96,7 @@ fn undo_group(
     from: usize,
     count: usize,
 ) -> Device
-    requires { ⌜ (from + count * 16 ≤ length (now stands)) × (allSound base (holding (now window)) count (drop from (now stands)) ≡ true) ⌝ }
+    requires { ⌜ (from + count * 16 ≤ length (now stands)) × (allSound base (scanning (d .chip) (now window)) count (drop from (now stands)) ≡ true) ⌝ }
     ensures { λ r. ⌜ machine (now (window .exit)) (view r) ≡ undo base (decodeAll count (drop from (now (stands .entry)))) (machine (now (window .entry)) (view d)) ⌝ }
 {
     let mut table = d.table;
@@ -142,7 +142,7 @@ fn accepted(e: Device, from: usize) -> Acted
 // "Take back: base address, window, journal; undoes the last standing act." Checks 5 and 6 "go in number order", then 12 and 13. "After a
 // take-back the removed group's bytes are zero and the rest unchanged."
 pub fn take_back(d: Device, base: u32, window: &mut [u8], journal: &mut [u8], used: usize) -> Acted
-    ensures { λ r. ⌜ toldActed r (now (window .exit)) [] (now (journal .exit)) ≡ afterBack base (view d) (now (window .entry)) (now (journal .entry)) used ⌝ }
+    ensures { λ r. ⌜ (toldActed r (now (window .exit)) [] (now (journal .exit)) ≡ afterBack base (view d) (now (window .entry)) (now (journal .entry)) used) × Spared (r .verdict) (d .priorities) (r .device .priorities) ⌝ }
 {
     if asking::bad_window(base, window.len()) {
         return refused(d, Refusal::Window, used);
@@ -154,7 +154,7 @@ pub fn take_back(d: Device, base: u32, window: &mut [u8], journal: &mut [u8], us
         return refused(d, Refusal::NothingStands, used);
     }
     let stands = &journal[..used];
-    let Standing::Group(from, count) = last_group(base, window, stands) else {
+    let Standing::Group(from, count) = last_group(d.chip, base, window, stands) else {
         return refused(d, Refusal::Damaged, used);
     };
     let e = undo_group(d, base, window, stands, from, count);

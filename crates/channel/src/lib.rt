@@ -41,7 +41,7 @@ fn less_one(count: u32) -> u32
 }
 
 // "Spend one pending count if there is one".
-fn spend(pending: &mut [u32; 64], ch: usize)
+pub fn spend(pending: &mut [u32; 64], ch: usize)
     requires { ⌜ ch < 64 ⌝ }
     ensures { λ _. ⌜ (now (pending .exit) ≡ set (now (pending .entry)) ch (getD (now (pending .entry)) ch 0 - 1)) × (getD (now (pending .entry)) ch 0 < 2 ^ 32) ⌝ }
 {
@@ -51,7 +51,7 @@ fn spend(pending: &mut [u32; 64], ch: usize)
 
 // ---- what a turn reads of a descriptor. The table's length is told too: its type alone does not tell it in a loop.
 
-fn nbytes_of(table: &[u8; 2048], ch: usize) -> u64
+pub fn nbytes_of(table: &[u8; 2048], ch: usize) -> u64
     requires { ⌜ ch < 64 ⌝ }
     ensures { λ r. ⌜ (r ≡ tcdOf (part (now (table .entry)) (32 * ch) 32) .nbytes) × (r < 2 ^ 32) × (length (now (table .entry)) ≡ 2048) ⌝ }
 {

@@ -13,7 +13,7 @@ use Rattle.rules.proofs.FieldLaws.{sized, levels-long}
 use Rattle.rules.proofs.ViewLaws.{controller-viewed}
 use Rattle.act.specs.Parts.{Arrays, whole, heldAt, SameLevels}
 use Rattle.act.specs.declared.Core.{Core}
-use Rattle.closing.specs.Closes.{Noting, noting, addAll, Notes, Part, coreIn, levelsIn}
+use Rattle.closing.specs.Closes.{Noting, noting, addAll, Notes, Part, coreIn, levelsIn, orderIn}
 use Rattle.closing.specs.declared.Noted.{Noted}
 use Rattle.closing.proofs.Laws.{part-on, same-on, none-changed}
 
@@ -91,15 +91,15 @@ levels-in : (k : Core) (x : Arrays) → controller (whole k x .controllers) 0 .l
 unfolding levelsIn
 levels-in k x = rw (controller-viewed (k .controllers) 0, controller-viewed (k .controllers) 1, controller-viewed (k .controllers) 2) refl
 
-in-parts : (s g h x y z k l m o t : List ℕ) → joined (s ∷ g ∷ h ∷ x ∷ y ∷ z ∷ k ∷ l ∷ m ∷ o ∷ t ∷ []) ≡ (s ++ (g ++ h)) ++ (x ++ (y ++ (z ++ ((k ++ (l ++ m)) ++ (o ++ t)))))
+in-parts : (s g h x y z k l m o t q : List ℕ) → joined (s ∷ g ∷ h ∷ x ∷ y ∷ z ∷ k ∷ l ∷ m ∷ o ∷ t ∷ q ∷ []) ≡ (s ++ (g ++ h)) ++ (x ++ (y ++ (z ++ ((k ++ (l ++ m)) ++ (o ++ (t ++ q))))))
 unfolding joined
-in-parts s g h x y z k l m o t = simp (append-assoc, append-nil)
+in-parts s g h x y z k l m o t q = simp (append-assoc, append-nil)
 
-fields-in : (k : Core) (x : Arrays) → fieldsOf (whole k x) ≡ coreIn k ++ (x .busy ++ (x .majors ++ (x .pending ++ (levelsIn k ++ (replicate 128 0 ++ x .taken)))))
+fields-in : (k : Core) (x : Arrays) → fieldsOf (whole k x) ≡ coreIn k ++ (x .busy ++ (x .majors ++ (x .pending ++ (levelsIn k ++ (replicate 128 0 ++ (x .taken ++ orderIn x))))))
 unfolding fieldsOf partsOf
 fields-in k x =
-    in-parts (viewScalars (k .scalars)) (replicate (16 - length scalarBits) 0) (ownOf (whole k x)) (x .busy) (x .majors) (x .pending) _ _ _ (replicate 128 0) (x .taken)
-    ∙ ap₂ (λ (h l : List ℕ). h ++ (x .busy ++ (x .majors ++ (x .pending ++ (l ++ (replicate 128 0 ++ x .taken)))))) (own-in k x) (levels-in k x)
+    in-parts (viewScalars (k .scalars)) (replicate (16 - length scalarBits) 0) (ownOf (whole k x)) (x .busy) (x .majors) (x .pending) _ _ _ (replicate 128 0) (x .taken) (orderIn x)
+    ∙ ap₂ (λ (h l : List ℕ). h ++ (x .busy ++ (x .majors ++ (x .pending ++ (l ++ (replicate 128 0 ++ (x .taken ++ orderIn x))))))) (own-in k x) (levels-in k x)
 
 module _ (k : Core) (x : Arrays) (p : Proper (whole k x)) (s : Noted) (j : List ℕ) where
   pub same-busy : Part 64 64 (x .busy) (x .busy) s s j j
@@ -114,16 +114,30 @@ module _ (k : Core) (x : Arrays) (p : Proper (whole k x)) (s : Noted) (j : List 
   unfolding partsOf
   same-pending = let z = sized (whole k x) (p .sound) in record { long = z .1 .1 .1 .1 .1 .0; long-now = z .1 .1 .1 .1 .1 .0; noted = same 192 (x .pending) s j }
 
-module _ (k l : Core) (x y : Arrays) (s : Noted) (j : List ℕ) {t₁ t₂ t₃ t₄ t₅ r : Noted} {j₁ j₂ j₃ j₄ j₅ j′ : List ℕ} where
-  pub all-noted : Notes 0 (coreIn k) (coreIn l) s t₁ j j₁ → Part 64 64 (x .busy) (y .busy) t₁ t₂ j₁ j₂ → Part 64 128 (x .majors) (y .majors) t₂ t₃ j₂ j₃
-      → Part 64 192 (x .pending) (y .pending) t₃ t₄ j₃ j₄ → Part 192 256 (levelsIn k) (levelsIn l) t₄ t₅ j₄ j₅ → Notes 576 (x .taken) (y .taken) t₅ r j₅ j′
-      → Notes 0 (fieldsOf (whole k x)) (fieldsOf (whole l y)) s r j j′
+  pub same-taken : Part 192 576 (x .taken) (x .taken) s s j j
+  unfolding partsOf
+  same-taken =
+      let z = sized (whole k x) (p .sound) .1 .1 .1 .1 .1 .1 .1 .1 .1 .1 in
+      record { long = z .0; long-now = z .0; noted = same 576 (x .taken) s j }
+
+module _ (k l : Core) (x y : Arrays) (s : Noted) (j : List ℕ) {t₁ t₂ t₃ t₄ t₅ t₆ r : Noted} {j₁ j₂ j₃ j₄ j₅ j₆ j′ : List ℕ} where
+  pub every-noted : Notes 0 (coreIn k) (coreIn l) s t₁ j j₁ → Part 64 64 (x .busy) (y .busy) t₁ t₂ j₁ j₂ → Part 64 128 (x .majors) (y .majors) t₂ t₃ j₂ j₃
+      → Part 64 192 (x .pending) (y .pending) t₃ t₄ j₃ j₄ → Part 192 256 (levelsIn k) (levelsIn l) t₄ t₅ j₄ j₅ → Part 192 576 (x .taken) (y .taken) t₅ t₆ j₅ j₆
+      → Notes 768 (orderIn x) (orderIn y) t₆ r j₆ j′ → Notes 0 (fieldsOf (whole k x)) (fieldsOf (whole l y)) s r j j′
   unfolding coreIn
-  all-noted e f g h i m =
+  every-noted e f g h i m o =
       rw (fields-in k x, fields-in l y)
       (part-on 0 64 (coreIn k) (coreIn l) _ _ (noting s j) refl refl e
       (rest-on t₁ j₁ 64 128 64 (x .busy) (y .busy) _ _ refl f
       (rest-on t₂ j₂ 128 192 64 (x .majors) (y .majors) _ _ refl g
       (rest-on t₃ j₃ 192 256 64 (x .pending) (y .pending) _ _ refl h
       (rest-on t₄ j₄ 256 448 192 (levelsIn k) (levelsIn l) _ _ refl i
-      (same-on 448 576 (replicate 128 0) _ _ (noting t₅ j₅) refl m))))))
+      (same-on 448 576 (replicate 128 0) _ _ (noting t₅ j₅) refl
+      (rest-on t₅ j₅ 576 768 192 (x .taken) (y .taken) _ _ refl m o)))))))
+
+-- where priorities are as they were
+module _ (k l : Core) (x y : Arrays) (s : Noted) (j : List ℕ) {t₁ t₂ t₃ t₄ t₅ r : Noted} {j₁ j₂ j₃ j₄ j₅ j′ : List ℕ} where
+  pub all-noted : Notes 0 (coreIn k) (coreIn l) s t₁ j j₁ → Part 64 64 (x .busy) (y .busy) t₁ t₂ j₁ j₂ → Part 64 128 (x .majors) (y .majors) t₂ t₃ j₂ j₃
+      → Part 64 192 (x .pending) (y .pending) t₃ t₄ j₃ j₄ → Part 192 256 (levelsIn k) (levelsIn l) t₄ t₅ j₄ j₅ → Part 192 576 (x .taken) (y .taken) t₅ r j₅ j′
+      → orderIn x ≡ orderIn y → Notes 0 (fieldsOf (whole k x)) (fieldsOf (whole l y)) s r j j′
+  all-noted e f g h i m o = every-noted k l x y s j e f g h i m (none-changed 768 (orderIn x) (orderIn y) (noting r j′) o)

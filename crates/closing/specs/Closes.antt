@@ -11,7 +11,8 @@ use Rattle.rules.specs.Carry.{World, Rec, lineOf, endLine, changed, After, made
 use Rattle.rules.specs.Fields.{masksOf, fieldsOf}
 use Rattle.rules.specs.Scalars.{scalarBits, viewScalars}
 use Rattle.rules.specs.State.{Device}
-use Rattle.act.specs.Parts.{heldAt}
+use Rattle.rules.specs.View.{viewPriorities}
+use Rattle.act.specs.Parts.{Arrays, heldAt}
 use Rattle.act.specs.declared.Core.{Core}
 use Rattle.closing.specs.declared.Noted.{Noted}
 use Rattle.closing.specs.declared.Noted.the-variants.{At, Full}
@@ -67,6 +68,10 @@ coreIn k =
 -- 256 to 447
 unfoldable pub levelsIn : Core → List ℕ
 levelsIn k = heldAt k 0 .levels ++ (heldAt k 1 .levels ++ heldAt k 2 .levels)
+
+-- 768 to 831
+abbrev pub orderIn : Arrays → List ℕ
+orderIn x = viewPriorities (x .chip) (x .priorities)
 
 -- ---- how an act that began at u and reached device d ends: made, or refused for want of room
 

@@ -334,6 +334,14 @@ pub fn note_count(s: Noted, channel: u32, before: u32, after: u32, journal: &mut
     note_field(s, 192 + channel, wide32(before), wide32(after), journal)
 }
 
+// "Six-bit fields 768 + channel": of an act that can have changed the priority of one channel alone.
+pub fn note_priority(s: Noted, channel: u32, before: u8, after: u8, journal: &mut [u8]) -> Noted
+    requires { ⌜ channel < 64 ⌝ }
+    ensures { λ r. ⌜ NotesOne 64 768 channel before after s r ⇒ journal ⌝ }
+{
+    note_field(s, 768 + channel, wide8(before), wide8(after), journal)
+}
+
 // "512+v taken (v 64..255)".
 pub fn note_taken(s: Noted, before: &[u64; 192], after: &[u64; 192], journal: &mut [u8]) -> Noted
     ensures { λ r. ⌜ Part 192 576 (now (before .entry)) (now (after .entry)) s r ⇒ journal ⌝ }

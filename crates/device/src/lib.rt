@@ -4,17 +4,17 @@ use rules::Controller;
 use rules::Device;
 use rules::Scalars;
 ghost use mathlib.Core.Path.{_≡_};
-ghost use mathlib.Core.Bool.{true};
+ghost use mathlib.Core.Bool.{true, cond};
 ghost use Prim.Native.Nat.{_<_, _≤_, _^_};
-ghost use lib.ListN.{length, getD, set};
-ghost use Rattle.rules.specs.Act.{MASKS, FORCED, LINES, CONFIG, BUSY, MAJORS, PENDING, SOURCE, TAKEN};
-ghost use Rattle.rules.specs.Fields.{controller, withField, withNumber, bitsOf, ofController, fieldAt, fitsSome};
-ghost use Rattle.rules.specs.Calls.{fresh, freshController};
+ghost use lib.ListN.{length, getD, set, replicate};
+ghost use Rattle.rules.specs.Act.{MASKS, FORCED, LINES, CONFIG, BUSY, MAJORS, PENDING, SOURCE, TAKEN, PRIORITY};
+ghost use Rattle.rules.specs.Fields.{controller, withField, withNumber, bitsOf, bitsIn, ofController, fieldAt, fitsSome};
+ghost use Rattle.rules.specs.Calls.{fresh, freshController, counting};
 ghost use Rattle.rules.specs.Scalars.{scalarBits, viewScalars};
-ghost use Rattle.rules.specs.View.{viewController, view};
+ghost use Rattle.rules.specs.View.{viewController, viewPriorities, view};
 ghost use Rattle.device.specs.Spots.{cut, Fits, Found, bitsAt};
 
-// ---- "A fresh device is zero in every field, except masks (all ones) and deadline (2^64 - 1)."
+// ---- "A fresh device is zero in every field, except masks (all ones) and deadline (2^64 - 1)"; and priorities "are reset to the channel's own number".
 
 fn fresh_controller() -> Controller
     ensures { λ r. ⌜ viewController r ≡ freshController ⌝ }
@@ -28,9 +28,29 @@ fn fresh_controller() -> Controller
     }
 }
 
-// "Ignoring masks is a setting no call changes": it is chosen here.
-pub fn fresh(ignore_masks: bool) -> Device
-    ensures { λ r. ⌜ view r ≡ fresh «ignore_masks» ⌝ }
+// The numbers of the channels.
+fn own_numbers() -> [u8; 64]
+    ensures { λ r. ⌜ r ≡ counting 64 0 ⌝ }
+{
+    let mut own = [0u8; 64];
+    let mut left: usize = 64;
+    while 0 < left {
+        left -= 1;
+        own[left] = left as u8;
+    }
+    own
+}
+
+// Priorities of the chip's mode; the other has none.
+fn fresh_priorities(chip: bool) -> [u8; 64]
+    ensures { λ r. ⌜ viewPriorities chip r ≡ cond chip (counting 64 0) (replicate 64 0) ⌝ }
+{
+    if chip { own_numbers() } else { [0u8; 64] }
+}
+
+// "Ignoring masks is a setting no call changes", and so is the mode: they are chosen here.
+pub fn fresh(ignore_masks: bool, chip: bool) -> Device
+    ensures { λ r. ⌜ view r ≡ fresh «ignore_masks» chip ⌝ }
 {
     let c = fresh_controller();
     Device {
@@ -51,8 +71,10 @@ pub fn fresh(ignore_masks: bool) -> Device
         majors: [0u64; 64],
         taken: [0u64; 192],
         pending: [0u32; 64],
+        priorities: fresh_priorities(chip),
         controllers: [c, c, c],
         ignore_masks,
+        chip,
     }
 }
 
@@ -194,6 +216,16 @@ pub fn with_taken(d: Device, i: usize, v: u64) -> Device
     e
 }
 
+// "Six-bit fields 768 + channel in this mode's journal".
+pub fn with_priority(d: Device, ch: usize, v: u8) -> Device
+    requires { ⌜ (ch < 64) × (v < 2 ^ bitsIn (d .chip) (PRIORITY ch)) ⌝ }
+    ensures { λ r. ⌜ view r ≡ withField (PRIORITY ch) v (view d) ⌝ }
+{
+    let mut e = d;
+    e.priorities[ch] = v;
+    e
+}
+
 // ---- by number
 
 // Where the field of a number stands: one of the scalars; of a controller, its IMR, FRC, lines or ICONFIG; an element of an array.
@@ -206,11 +238,13 @@ enum Spot {
     Pending(usize),
     Source(usize, usize),
     Taken(usize),
+    Priority(usize),
 }
 
-// "16+4c IMR, then FRC, lines, ICONFIG; 64+ch busy, 128+ch majors, 192+ch pending, 256+64c+s source level, 512+v taken (v 64..255)".
-fn spot_of(n: usize) -> Spot
-    ensures { λ r. ⌜ Found n r ⌝ }
+// "16+4c IMR, then FRC, lines, ICONFIG; 64+ch busy, 128+ch majors, 192+ch pending, 256+64c+s source level, 512+v taken (v 64..255)"; and in the chip's
+// mode "768 + channel".
+fn spot_of(chip: bool, n: usize) -> Spot
+    ensures { λ r. ⌜ Found chip n r ⌝ }
 {
     if n < SCALARS {
         return Spot::Scalar(n);
@@ -242,17 +276,24 @@ fn spot_of(n: usize) -> Spot
     if n < 768 {
         return Spot::Taken(n - 576);
     }
-    Spot::Nowhere
+    if 832 <= n {
+        return Spot::Nowhere;
+    }
+    if chip {
+        Spot::Priority(n - 768)
+    } else {
+        Spot::Nowhere
+    }
 }
 
 // "ICONFIG 16; [..] others 64."
 const OWN_BITS: [u32; 4] = [64, 64, 64, 16];
 
-// How many bits the field of a number has; 0: there is no such field.
-pub fn field_bits(n: usize) -> u32
-    ensures { λ r. ⌜ r ≡ bitsAt n ⌝ }
+// How many bits the field of a number has in a mode; 0: there is no such field.
+pub fn field_bits(chip: bool, n: usize) -> u32
+    ensures { λ r. ⌜ r ≡ bitsAt chip n ⌝ }
 {
-    let spot = spot_of(n);
+    let spot = spot_of(chip, n);
     match spot {
         Spot::Nowhere => 0,
         Spot::Scalar(i) => SCALAR_BITS[i],
@@ -262,6 +303,7 @@ pub fn field_bits(n: usize) -> u32
         Spot::Pending(_) => 32,
         Spot::Source(_, _) => 8,
         Spot::Taken(_) => 64,
+        Spot::Priority(_) => 6,
     }
 }
 
@@ -288,10 +330,10 @@ fn with_own(d: Device, c: usize, k: usize, v: u64) -> Device
 
 // The device with `v` in the field of a number.
 pub fn with_number(d: Device, n: usize, v: u64) -> Device
-    requires { ⌜ fitsSome (fieldAt n) v ≡ true ⌝ }
+    requires { ⌜ fitsSome (d .chip) (fieldAt (d .chip) n) v ≡ true ⌝ }
     ensures { λ r. ⌜ view r ≡ withNumber n v (view d) ⌝ }
 {
-    let spot = spot_of(n);
+    let spot = spot_of(d.chip, n);
     match spot {
         Spot::Nowhere => d,
         Spot::Scalar(i) => {
@@ -306,5 +348,6 @@ pub fn with_number(d: Device, n: usize, v: u64) -> Device
         Spot::Pending(ch) => with_pending(d, ch, v as u32),
         Spot::Source(c, s) => with_source(d, c, s, v as u8),
         Spot::Taken(i) => with_taken(d, i, v),
+        Spot::Priority(ch) => with_priority(d, ch, v as u8),
     }
 }

@@ -2,21 +2,19 @@
 use mathlib.Core.Bool.{true, false}
 use mathlib.Core.List.{List}
 use mathlib.Core.Path.{_≡_, refl}
-use Prim.Native.Nat.{ℕ, _%_, _^_}
+use Prim.Native.Nat.{ℕ}
 use lib.Dec.{leb}
 use lib.ListN.{length}
-use Rattle.rules.specs.Act.{Field, SCALAR, MASKS, FORCED, LINES, CONFIG, BUSY, MAJORS, PENDING, SOURCE, TAKEN}
+use Rattle.rules.specs.Act.{Field, SCALAR, MASKS, FORCED, LINES, CONFIG, BUSY, MAJORS, PENDING, SOURCE, TAKEN, PRIORITY}
 use Rattle.rules.specs.Calls.{ack, stops, actOf, deviceTold, toldAfter, worldOf, after}
 use Rattle.rules.specs.Carry.{World, Out, ok, no, made, unmade, withDevice, lastLines, written, cleared, leave, perform, lending}
-use Rattle.rules.specs.Fields.{bitsOf}
 use Rattle.rules.specs.State.{Device}
 use Rattle.rules.specs.declared.Heard.{Heard}
-use Rattle.rules.specs.declared.Heard.the-variants as Heard
 use Rattle.rules.proofs.CallLaws.{either-way}
 use Rattle.rules.proofs.Each.{Rights, Proper, Properly, each-keeps}
 use Rattle.rules.proofs.Keeps.{AtEnd}
 use Rattle.rules.proofs.Pieces.{acknowledge-each}
-use Rattle.rules.proofs.Steps.{putting}
+use Rattle.rules.proofs.Steps.{cutting}
 
 -- ---- its steps
 
@@ -31,6 +29,7 @@ OfTaken (MAJORS ch) = ⊥
 OfTaken (PENDING ch) = ⊥
 OfTaken (SOURCE c s) = ⊥
 OfTaken (TAKEN i) = Unit {0}
+OfTaken (PRIORITY ch) = ⊥
 
 abbrev counting : Rights
 counting = record { may-stage = λ n. ⊥; may-fetch = λ sp a n. ⊥; may-store = λ sp a n. ⊥; may-put = OfTaken }
@@ -44,7 +43,7 @@ module _ (d : Device) where
   abbrev On : World → Type 0
   On u = As (u .now .dev)
 
-  on-put : (f : Field) (v : ℕ) (u : World) → Proper (u .now .dev) → OfTaken f → On u → On (putting f (v % 2 ^ bitsOf f) u)
+  on-put : (f : Field) (v : ℕ) (u : World) → Proper (u .now .dev) → OfTaken f → On u → On (cutting f v u)
   unfolding withDevice
   on-put (SCALAR i) v u q h p = absurd h
   on-put (MASKS c) v u q h p = absurd h
@@ -56,6 +55,7 @@ module _ (d : Device) where
   on-put (PENDING ch) v u q h p = absurd h
   on-put (SOURCE c s) v u q h p = absurd h
   on-put (TAKEN i) v u q h p = p
+  on-put (PRIORITY ch) v u q h p = absurd h
 
   ended : (u : World) (o : Out Heard) (staging : List ℕ) (used : ℕ) → On u → AtEnd (Properly On) o → As (deviceTold (toldAfter staging used (leave u o)))
   unfolding leave toldAfter written cleared

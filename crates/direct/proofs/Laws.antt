@@ -7,9 +7,10 @@ use native.Mathlib.Omega.{arith}
 use borrow.Author.Tests.{eq-eqb, ne-eqb, lt-ltb, le-ltb}
 use lib.Dec.{eqb}
 use lib.ListN.{length}
+use Rattle.rules.specs.Act.{IGNORE}
 use Rattle.rules.specs.Calls.{Asked, ack, Told, deviceTold, after, toldActed, fresh, verdictNumber, heardLevel, heardVector}
 use Rattle.rules.specs.State.{Device}
-use Rattle.rules.specs.View.{view}
+use Rattle.rules.specs.View.{viewPriorities, view}
 use Rattle.rules.specs.declared.Acted.{Acted}
 use Rattle.rules.specs.declared.Device.{Device as HeldDevice}
 use Rattle.rules.specs.declared.Heard.{Heard}
@@ -23,7 +24,8 @@ use Rattle.act.specs.declared.Done.{Done}
 use Rattle.direct.proofs.Hears.{ack-keeps}
 use Rattle.answers.specs.Answers.{packed, left, leftBy}
 use Rattle.direct.specs.declared.Fed.{Fed}
-use Rattle.direct.specs.Direct.{fedCore, leftOf, freshBy, saved, savedBy, loadedBy}
+use Rattle.direct.specs.declared.Short.{Short}
+use Rattle.direct.specs.Direct.{coreIn, fedCore, leftOf, freshBy, saved, savedBy, loadedBy}
 
 -- an act that was made, and what it answered put into one number
 pub act-left : (a : Acted) {window staging journal : List ℕ} {t : Told} {r : ℕ} {d : HeldDevice} → toldActed a window staging journal ≡ t → (r ≡ packed (verdictNumber (a .verdict)) 0 0 (a .used)) × (d ≡ a .device)
@@ -31,7 +33,7 @@ pub act-left : (a : Acted) {window staging journal : List ℕ} {t : Told} {r : �
 unfolding leftBy
 act-left a q s = rw (← q, s .0, s .1) refl
 
--- the same on a device in parts: no call changes the setting
+-- the same on a device in parts: no call changes a setting
 abbrev pub kept : Core → Core → Core
 kept k l = record { scalars = l .scalars; controllers = l .controllers; «ignore_masks» = k .«ignore_masks» }
 
@@ -40,23 +42,26 @@ pub done-left : (c : Asked) (h : Heard) (k : Core) (a : Done) (y x : Arrays) (ba
     → left r (whole (kept k (a .core)) x) w′ s′ j′ ≡ leftOf (after c base (whole k y) w s j used)
 unfolding leftBy
 done-left c h k a y x base w s j w′ s′ j′ used {r} q p =
-    let i : a .core .«ignore_masks» ≡ k .«ignore_masks» = ap (λ t. deviceTold t .ignore) q ∙ act-keeps-setting base (whole k y) w j used c s in
+    let i : a .core .«ignore_masks» ≡ k .«ignore_masks» = ap (λ t. deviceTold t .ignore) q ∙ act-keeps-setting base (whole k y) w j used IGNORE c s in
     rw (← q, p) (ap (λ b. left (packed (verdictNumber (a .verdict)) (heardLevel h) (heardVector h) (a .used)) (whole (record { scalars = a .core .scalars; controllers = a .core .controllers; «ignore_masks» = b }) x) w′ s′ j′) (sym i))
 
--- the same, handed back as a struct
-pub fed-left : (c : Asked) (k : Core) (a : Done) (r : Fed) (y x : Arrays) (base : ℕ) (w s j w′ s′ j′ : List ℕ) (used : ℕ)
-    → toldDone Heard.Nothing a x w′ s′ j′ ≡ after c base (whole k y) w s j used
+-- the same, handed back as a struct; the core was taken from what an entry copied
+pub fed-left : (c : Asked) (k : Short) (l : Core) → l ≡ coreIn k → (a : Done) (r : Fed) (y x : Arrays) (base : ℕ) (w s j w′ s′ j′ : List ℕ) (used : ℕ)
+    → toldDone Heard.Nothing a x w′ s′ j′ ≡ after c base (whole l y) w s j used
     → (r .answer ≡ packed (verdictNumber (a .verdict)) 0 0 (a .used)) × (r .scalars ≡ a .core .scalars) × (r .controllers ≡ a .core .controllers)
-    → left (r .answer) (whole (fedCore k r) x) w′ s′ j′ ≡ leftOf (after c base (whole k y) w s j used)
-fed-left c k a r y x base w s j w′ s′ j′ used q p = rw (p .1, p .2) (done-left c Heard.Nothing k a y x base w s j w′ s′ j′ used q (p .0))
+    → left (r .answer) (whole (fedCore (coreIn k) r) x) w′ s′ j′ ≡ leftOf (after c base (whole (coreIn k) y) w s j used)
+fed-left c k l same a r y x base w s j w′ s′ j′ used q p = rw (p .1, p .2) (done-left c Heard.Nothing (coreIn k) a y x base w s j w′ s′ j′ used (rw same at q) (p .0))
+
+pub proper-core : (k : Short) (l : Core) (x : Arrays) → l ≡ coreIn k → Proper (whole (coreIn k) x) → Proper (whole l x)
+proper-core k l x same p = rw same p
 
 -- an acknowledge changes neither numbers nor controllers
-pub heard-left : (ipl : ℕ) (h : Heard) (k : Core) (a : Done) (y x : Arrays) (base : ℕ) (w s j w′ s′ j′ : List ℕ) (used : ℕ) {r : ℕ} → Proper (whole k y)
+heeded-left : (ipl : ℕ) (h : Heard) (k : Core) (a : Done) (y x : Arrays) (base : ℕ) (w s j w′ s′ j′ : List ℕ) (used : ℕ) {r : ℕ} → Proper (whole k y)
     → toldDone h a x w′ s′ j′ ≡ after (ack ipl) base (whole k y) w s j used → r ≡ packed (verdictNumber (a .verdict)) (heardLevel h) (heardVector h) (a .used)
     → left r (whole k x) w′ s′ j′ ≡ leftOf (after (ack ipl) base (whole k y) w s j used)
 unfolding leftBy
-heard-left ipl h k a y x base w s j w′ s′ j′ used {r} proper q p =
-    let i : whole (a .core) x .ignore ≡ whole k y .ignore = ap (λ t. deviceTold t .ignore) q ∙ act-keeps-setting base (whole k y) w j used (ack ipl) s in
+heeded-left ipl h k a y x base w s j w′ s′ j′ used {r} proper q p =
+    let i : whole (a .core) x .ignore ≡ whole k y .ignore = ap (λ t. deviceTold t .ignore) q ∙ act-keeps-setting base (whole k y) w j used IGNORE (ack ipl) s in
     let keeps = ack-keeps (whole k y) base w s j used ipl proper in
     let e : whole (a .core) x .scalars ≡ whole k y .scalars = ap (λ t. deviceTold t .scalars) q ∙ keeps .0 in
     let f : whole (a .core) x .controllers ≡ whole k y .controllers = ap (λ t. deviceTold t .controllers) q ∙ keeps .1 in
@@ -67,19 +72,31 @@ heard-left ipl h k a y x base w s j w′ s′ j′ used {r} proper q p =
       majors = x .majors;
       pending = x .pending;
       taken = x .taken;
+      priorities = viewPriorities (x .chip) (x .priorities);
       table = x .table;
       ignore = i n;
+      chip = x .chip;
     }) w′ s′ j′))
+
+pub heard-left : (ipl : ℕ) (h : Heard) (k : Short) (l : Core) → l ≡ coreIn k → (a : Done) (y x : Arrays) (base : ℕ) (w s j w′ s′ j′ : List ℕ) (used : ℕ) {r : ℕ} → Proper (whole (coreIn k) y)
+    → toldDone h a x w′ s′ j′ ≡ after (ack ipl) base (whole l y) w s j used → r ≡ packed (verdictNumber (a .verdict)) (heardLevel h) (heardVector h) (a .used)
+    → left r (whole (coreIn k) x) w′ s′ j′ ≡ leftOf (after (ack ipl) base (whole (coreIn k) y) w s j used)
+heard-left ipl h k l same a y x base w s j w′ s′ j′ used proper q p = heeded-left ipl h (coreIn k) a y x base w s j w′ s′ j′ used proper (rw same at q) p
 
 -- ---- a fresh device
 
-pub fresh-unknown : (d : Device) (ignore : ℕ) → 1 < ignore → {r : ℕ} → r ≡ packed 255 0 0 0 → left r d [] [] [] ≡ freshBy d ignore
+pub fresh-unknown : (d : Device) (ignore mode : ℕ) → 1 < ignore → {r : ℕ} → r ≡ packed 255 0 0 0 → left r d [] [] [] ≡ freshBy d ignore mode
 unfolding freshBy
-fresh-unknown d ignore k p = rw (le-ltb ignore 2 k) (ap (λ n. left n d [] [] []) p)
+fresh-unknown d ignore mode k p = rw (le-ltb ignore 2 k) (ap (λ n. left n d [] [] []) p)
 
-pub fresh-made : (d : Device) (ignore : ℕ) → ignore ≤ 1 → {e : Device} → e ≡ fresh (eqb ignore 1) → left 0 e [] [] [] ≡ freshBy d ignore
-unfolding freshBy
-fresh-made d ignore k p = rw (lt-ltb ignore 2 (omega (arith, k)), p) refl
+module _ (d : Device) (ignore mode : ℕ) (h : ignore ≤ 1) where
+  pub fresh-unmoded : 1 < mode → {r : ℕ} → r ≡ packed 255 0 0 0 → left r d [] [] [] ≡ freshBy d ignore mode
+  unfolding freshBy
+  fresh-unmoded k p = rw (lt-ltb ignore 2 (omega (arith, h)), le-ltb mode 2 k) (ap (λ n. left n d [] [] []) p)
+
+  pub fresh-made : mode ≤ 1 → {e : Device} → e ≡ fresh (eqb ignore 1) (eqb mode 1) → left 0 e [] [] [] ≡ freshBy d ignore mode
+  unfolding freshBy
+  fresh-made k p = rw (lt-ltb ignore 2 (omega (arith, h)), lt-ltb mode 2 (omega (arith, k)), p) refl
 
 -- ---- a device as bytes
 

@@ -14,9 +14,9 @@ ghost use Prim.Native.Nat.{_%_, _^_};
 ghost use Rattle.rules.specs.Calls.{verdictNumber, after, afterBack, afterRead, write, inputs, pending as pendingCall, run, service, ack};
 ghost use Rattle.rules.specs.View.{view};
 ghost use Rattle.act.specs.Lent.{_⇒_};
-ghost use Rattle.act.specs.Parts.{Arrays, tabled, counted, taking};
+ghost use Rattle.act.specs.Parts.{Arrays, ordered, tabled, counted, taking};
 ghost use Rattle.answers.specs.Answers.{packed, left, readBy};
-ghost use Rattle.direct.specs.Direct.{leftOf, Aside, Feeds, Heeds, RunsFed, freshBy, saved, savedBy, loadedBy};
+ghost use Rattle.direct.specs.Direct.{leftOf, coreIn, Aside, Feeds, Heeds, RunsFed, freshBy, saved, savedBy, loadedBy};
 
 // The answer of a call, and the device after it.
 pub struct Entered {
@@ -29,6 +29,26 @@ pub struct Fed {
     pub answer: u64,
     pub scalars: Scalars,
     pub controllers: [Controller; 3],
+}
+
+// What of a device is short, as an entry copies it.
+pub struct Short {
+    pub scalars: Scalars,
+    pub controllers: [Controller; 3],
+    pub ignore_masks: bool,
+    pub chip: bool,
+}
+
+fn core_in(k: Short) -> Core
+    ensures { λ r. ⌜ r ≡ coreIn k ⌝ }
+{
+    let scalars = k.scalars;
+    let controllers = k.controllers;
+    Core {
+        scalars,
+        controllers,
+        ignore_masks: k.ignore_masks,
+    }
 }
 
 // ---- answers
@@ -62,8 +82,8 @@ fn handed_back(r: Done) -> Fed
 
 // ---- the calls, on a device by value
 
-fn fresh_by(d: Device, ignore_masks: u32) -> Entered
-    ensures { λ r. ⌜ left (r .answer) (view (r .device)) [] [] [] ≡ freshBy (view d) «ignore_masks» ⌝ }
+fn fresh_by(d: Device, ignore_masks: u32, mode: u32) -> Entered
+    ensures { λ r. ⌜ left (r .answer) (view (r .device)) [] [] [] ≡ freshBy (view d) «ignore_masks» mode ⌝ }
 {
     if 1 < ignore_masks {
         return Entered {
@@ -71,9 +91,15 @@ fn fresh_by(d: Device, ignore_masks: u32) -> Entered
             device: d,
         };
     }
+    if 1 < mode {
+        return Entered {
+            answer: answers::packed(255, 0, 0, 0),
+            device: d,
+        };
+    }
     Entered {
         answer: 0,
-        device: device::fresh(ignore_masks == 1),
+        device: device::fresh(ignore_masks == 1, mode == 1),
     }
 }
 
@@ -86,31 +112,34 @@ fn read_by(d: Device, address: u32, size: u32) -> u64
 // ---- the acts, on a device in parts: its core by value, its arrays lent
 
 fn write_by(
-    k: Core,
+    k: Short,
     address: u32,
     size: u32,
     value: u32,
     table: &mut [u8; 2048],
     pending: &mut [u32; 64],
+    priorities: &mut [u8; 64],
     journal: &mut [u8],
     used: u64,
 ) -> Fed
-    ensures { λ r. ⌜ ((x : Arrays) → (Feeds (write address size value) k r (tabled (counted x (now (pending .entry))) (now (table .entry))) (tabled (counted x (now (pending .exit))) (now (table .exit))) ⇒ journal) used) ⌝ }
+    ensures { λ r. ⌜ ((x : Arrays) → (Feeds (write address size value) k r (ordered (tabled (counted x (now (pending .entry))) (now (table .entry))) (now (priorities .entry)) (k .chip)) (ordered (tabled (counted x (now (pending .exit))) (now (table .exit))) (now (priorities .exit)) (k .chip)) ⇒ journal) used) ⌝ }
 {
     handed_back(registers::write_in(
-        k,
+        core_in(k),
         address,
         size,
         value,
+        k.chip,
         table,
         pending,
+        priorities,
         journal,
         used as usize,
     ))
 }
 
 fn inputs_by(
-    k: Core,
+    k: Short,
     standing: u64,
     lines0: u64,
     lines1: u64,
@@ -122,7 +151,7 @@ fn inputs_by(
     ensures { λ r. ⌜ ((x : Arrays) → (Feeds (inputs standing lines0 lines1 lines2) k r (counted x (now (pending .entry))) (counted x (now (pending .exit))) ⇒ journal) used) ⌝ }
 {
     handed_back(registers::inputs_in(
-        k,
+        core_in(k),
         standing,
         lines0,
         lines1,
@@ -134,7 +163,7 @@ fn inputs_by(
 }
 
 fn pending_by(
-    k: Core,
+    k: Short,
     channel: u32,
     count: u32,
     pending: &mut [u32; 64],
@@ -143,14 +172,20 @@ fn pending_by(
 ) -> Fed
     ensures { λ r. ⌜ ((x : Arrays) → (Feeds (pendingCall channel count) k r (counted x (now (pending .entry))) (counted x (now (pending .exit))) ⇒ journal) used) ⌝ }
 {
-    handed_back(registers::pending_in(k, channel, count, pending, journal, used as usize))
+    handed_back(registers::pending_in(core_in(k), channel, count, pending, journal, used as usize))
 }
 
 // Of `ipl` the low byte counts.
-fn acknowledge_by(k: Core, ipl: u32, taken: &mut [u64; 192], journal: &mut [u8], used: u64) -> u64
+fn acknowledge_by(k: Short, ipl: u32, taken: &mut [u64; 192], journal: &mut [u8], used: u64) -> u64
     ensures { λ r. ⌜ ((x : Arrays) → (Heeds (ack (ipl % 2 ^ 8)) k r (taking x (now (taken .entry))) (taking x (now (taken .exit))) ⇒ journal) used) ⌝ }
 {
-    let r = registers::acknowledge_in(k, (ipl % 0x100) as u8, taken, journal, used as usize);
+    let r = registers::acknowledge_in(
+        core_in(k),
+        (ipl % 0x100) as u8,
+        taken,
+        journal,
+        used as usize,
+    );
     let done = r.done;
     let heard = r.heard;
     let verdict = done.verdict;
@@ -158,7 +193,7 @@ fn acknowledge_by(k: Core, ipl: u32, taken: &mut [u64; 192], journal: &mut [u8],
 }
 
 fn run_by(
-    k: Core,
+    k: Short,
     time: u64,
     pace: u64,
     base: u32,
@@ -167,15 +202,17 @@ fn run_by(
     busy: &mut [u64; 64],
     majors: &mut [u64; 64],
     pending: &mut [u32; 64],
+    priorities: &mut [u8; 64],
     staging: &mut [u8],
     journal: &mut [u8],
     used: u64,
 ) -> Fed
-    ensures { λ r. ⌜ ((x : Arrays) → (RunsFed (run time pace) base k r x ⇒ window ⇒ staging ⇒ journal ⇒ table ⇒ busy ⇒ majors ⇒ pending) used) ⌝ }
+    ensures { λ r. ⌜ ((x : Arrays) → (RunsFed (run time pace) base k r x ⇒ window ⇒ staging ⇒ journal ⇒ table ⇒ busy ⇒ majors ⇒ pending ⇒ priorities) used) ⌝ }
 {
     handed_back(engine::run_in(
         false,
-        k,
+        k.chip,
+        core_in(k),
         time,
         pace,
         base,
@@ -184,6 +221,7 @@ fn run_by(
         busy,
         majors,
         pending,
+        priorities,
         staging,
         journal,
         used as usize,
@@ -191,7 +229,7 @@ fn run_by(
 }
 
 fn service_by(
-    k: Core,
+    k: Short,
     time: u64,
     pace: u64,
     base: u32,
@@ -200,15 +238,17 @@ fn service_by(
     busy: &mut [u64; 64],
     majors: &mut [u64; 64],
     pending: &mut [u32; 64],
+    priorities: &mut [u8; 64],
     staging: &mut [u8],
     journal: &mut [u8],
     used: u64,
 ) -> Fed
-    ensures { λ r. ⌜ ((x : Arrays) → (RunsFed (service time pace) base k r x ⇒ window ⇒ staging ⇒ journal ⇒ table ⇒ busy ⇒ majors ⇒ pending) used) ⌝ }
+    ensures { λ r. ⌜ ((x : Arrays) → (RunsFed (service time pace) base k r x ⇒ window ⇒ staging ⇒ journal ⇒ table ⇒ busy ⇒ majors ⇒ pending ⇒ priorities) used) ⌝ }
 {
     handed_back(engine::run_in(
         true,
-        k,
+        k.chip,
+        core_in(k),
         time,
         pace,
         base,
@@ -217,6 +257,7 @@ fn service_by(
         busy,
         majors,
         pending,
+        priorities,
         staging,
         journal,
         used as usize,
@@ -259,10 +300,10 @@ fn load_by(d: Device, image: &[u8]) -> Entered
 // ---- the entries
 
 #[no_mangle]
-pub extern "C" fn kp_device_fresh(d: &mut Device, ignore_masks: u32) -> u64
-    ensures { λ r. ⌜ left r (view (now (d .exit))) [] [] [] ≡ freshBy (view (now (d .entry))) «ignore_masks» ⌝ }
+pub extern "C" fn kp_device_fresh(d: &mut Device, ignore_masks: u32, mode: u32) -> u64
+    ensures { λ r. ⌜ left r (view (now (d .exit))) [] [] [] ≡ freshBy (view (now (d .entry))) «ignore_masks» mode ⌝ }
 {
-    let e = fresh_by(*d, ignore_masks);
+    let e = fresh_by(*d, ignore_masks, mode);
     *d = e.device;
     e.answer
 }
@@ -285,10 +326,11 @@ pub extern "C" fn kp_device_write(
 ) -> u64
     ensures { λ r. ⌜ Aside (write address size value) (view (now (d .entry))) (view (now (d .exit))) (now (journal .entry)) (now (journal .exit)) used r ⌝ }
 {
-    let k = Core {
+    let k = Short {
         scalars: d.scalars,
         controllers: d.controllers,
         ignore_masks: d.ignore_masks,
+        chip: d.chip,
     };
     let e = write_by(
         k,
@@ -297,6 +339,7 @@ pub extern "C" fn kp_device_write(
         value,
         &mut d.table,
         &mut d.pending,
+        &mut d.priorities,
         journal,
         used,
     );
@@ -317,10 +360,11 @@ pub extern "C" fn kp_device_inputs(
 ) -> u64
     ensures { λ r. ⌜ Aside (inputs standing lines0 lines1 lines2) (view (now (d .entry))) (view (now (d .exit))) (now (journal .entry)) (now (journal .exit)) used r ⌝ }
 {
-    let k = Core {
+    let k = Short {
         scalars: d.scalars,
         controllers: d.controllers,
         ignore_masks: d.ignore_masks,
+        chip: d.chip,
     };
     let e = inputs_by(
         k,
@@ -347,10 +391,11 @@ pub extern "C" fn kp_device_pending(
 ) -> u64
     ensures { λ r. ⌜ Aside (pendingCall channel count) (view (now (d .entry))) (view (now (d .exit))) (now (journal .entry)) (now (journal .exit)) used r ⌝ }
 {
-    let k = Core {
+    let k = Short {
         scalars: d.scalars,
         controllers: d.controllers,
         ignore_masks: d.ignore_masks,
+        chip: d.chip,
     };
     let e = pending_by(k, channel, count, &mut d.pending, journal, used);
     d.scalars = e.scalars;
@@ -367,10 +412,11 @@ pub extern "C" fn kp_device_acknowledge(
 ) -> u64
     ensures { λ r. ⌜ Aside (ack (ipl % 2 ^ 8)) (view (now (d .entry))) (view (now (d .exit))) (now (journal .entry)) (now (journal .exit)) used r ⌝ }
 {
-    let k = Core {
+    let k = Short {
         scalars: d.scalars,
         controllers: d.controllers,
         ignore_masks: d.ignore_masks,
+        chip: d.chip,
     };
     acknowledge_by(k, ipl, &mut d.taken, journal, used)
 }
@@ -388,10 +434,11 @@ pub extern "C" fn kp_device_run(
 ) -> u64
     ensures { λ r. ⌜ left r (view (now (d .exit))) (now (window .exit)) (now (staging .exit)) (now (journal .exit)) ≡ leftOf (after (run time pace) base (view (now (d .entry))) (now (window .entry)) (now (staging .entry)) (now (journal .entry)) used) ⌝ }
 {
-    let k = Core {
+    let k = Short {
         scalars: d.scalars,
         controllers: d.controllers,
         ignore_masks: d.ignore_masks,
+        chip: d.chip,
     };
     let e = run_by(
         k,
@@ -403,6 +450,7 @@ pub extern "C" fn kp_device_run(
         &mut d.busy,
         &mut d.majors,
         &mut d.pending,
+        &mut d.priorities,
         staging,
         journal,
         used,
@@ -425,10 +473,11 @@ pub extern "C" fn kp_device_service(
 ) -> u64
     ensures { λ r. ⌜ left r (view (now (d .exit))) (now (window .exit)) (now (staging .exit)) (now (journal .exit)) ≡ leftOf (after (service time pace) base (view (now (d .entry))) (now (window .entry)) (now (staging .entry)) (now (journal .entry)) used) ⌝ }
 {
-    let k = Core {
+    let k = Short {
         scalars: d.scalars,
         controllers: d.controllers,
         ignore_masks: d.ignore_masks,
+        chip: d.chip,
     };
     let e = service_by(
         k,
@@ -440,6 +489,7 @@ pub extern "C" fn kp_device_service(
         &mut d.busy,
         &mut d.majors,
         &mut d.pending,
+        &mut d.priorities,
         staging,
         journal,
         used,

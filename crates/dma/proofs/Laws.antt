@@ -9,12 +9,12 @@ use lib.Bits.{bitOr}
 use lib.Dec.{ltb}
 use lib.ListN.{length}
 use Rattle.rules.specs.State.{Device}
-use Rattle.rules.specs.Act.{Act, Field, table, nothing, fetch, store, change, when, _>>=_, _>>_}
+use Rattle.rules.specs.Act.{Act, Field, PRIORITY, table, fetch, store, put, change, when, _>>=_, _>>_}
 use Rattle.rules.specs.Scalars.{KICK}
 use Rattle.rules.specs.Bytes.{number}
-use Rattle.rules.specs.Calls.{isNone, orNothing, badSize}
+use Rattle.rules.specs.Calls.{isNone, badSize}
 use Rattle.rules.specs.Carry.{Out, legal, Lent}
-use Rattle.rules.specs.Fields.{bitsOf, holds, withField}
+use Rattle.rules.specs.Fields.{bitsIn, holds, withField}
 use Rattle.rules.specs.Registers.{within, inTable, command, tableWrite, pick, dmaArms, dmaWrite}
 use Rattle.rules.specs.Minor.{START}
 use Rattle.rules.specs.Words.{has, gain}
@@ -26,6 +26,7 @@ use Rattle.act.proofs.Laws.{then, fetched}
 use Rattle.masks.proofs.Ranges.{never}
 use Rattle.dma.specs.Started.{startsIn}
 use Rattle.words.specs.Widths.{TableWidth}
+use Rattle.dma_read.specs.Access.{isPriority}
 use Rattle.dma_read.proofs.Laws.{small, width}
 use native.Mathlib.Omega.{arith}
 
@@ -36,15 +37,10 @@ table-wide size e = let s = small size e in record { positive = s .0; most = ome
 
 -- ---- which arm it is
 
-if-idle : (b : Bool) → orNothing (cond b (some nothing) none) ≡ nothing
-unfolding orNothing
-if-idle true = refl
-if-idle false = refl
-
-if-there : (b : Bool) → b ≡ not (isNone {A = Act (Unit {0})} (cond b (some nothing) none))
+if-there : (b : Bool) (a : Act (Unit {0})) → b ≡ not (isNone (cond b (some a) none))
 unfolding isNone
-if-there true = refl
-if-there false = refl
+if-there true a = refl
+if-there false a = refl
 
 module _ (off v : ℕ) where
   pub write-table : (size : ℕ) → inTable off ≡ true → dmaWrite off size v ≡ some (tableWrite (off - 0x1000) size v)
@@ -61,15 +57,15 @@ module _ (off v : ℕ) where
     unfolding dmaWrite
     write-command f = rw (e, f)
 
-    -- a byte that is no command does nothing; there is such a register where it is a priority
+    -- a byte that is no command is a priority, or there is no such register
     module _ (f : within 0x18 0x1F off ≡ false) where
-      pub byte-idle : orNothing (dmaWrite off 1 v) ≡ nothing
-      unfolding dmaWrite
-      byte-idle = rw (e, f, no-byte) (if-idle (within 0x100 0x13F off))
+      pub byte-none : isPriority off 1 ≡ false → dmaWrite off 1 v ≡ none
+      unfolding dmaWrite isPriority
+      byte-none g = rw (e, f, no-byte, g)
 
       pub byte-there : within 0x100 0x13F off ≡ not (isNone (dmaWrite off 1 v))
       unfolding dmaWrite
-      byte-there = rw (e, f, no-byte) (if-there (within 0x100 0x13F off))
+      byte-there = rw (e, f, no-byte) (if-there (within 0x100 0x13F off) (put (PRIORITY (off - 0x100)) v))
 
     pub write-word : dmaWrite off 4 v ≡ pick off 4 (dmaArms v)
     unfolding dmaWrite
@@ -82,7 +78,7 @@ module _ (off v : ℕ) where
 -- ---- what the arms do
 
 -- a field gets the value that an act works out for it
-pub changed-to : (d : Device) (f : Field) (g : ℕ → ℕ) {x : ℕ} → x ≡ g (holds f d) → x < 2 ^ bitsOf f → Does (change f g) d (withField f x d)
+pub changed-to : (d : Device) (f : Field) (g : ℕ → ℕ) {x : ℕ} → x ≡ g (holds f d) → x < 2 ^ bitsIn (d .chip) f → Does (change f g) d (withField f x d)
 changed-to d f g e h = rw e (does-change d f g (rw e at h))
 
 -- a descriptor write: its store, and then KICK

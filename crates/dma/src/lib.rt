@@ -1,4 +1,5 @@
-// The DMA registers and the descriptor table, written.
+// The DMA registers and the descriptor table, written. Priorities (document 02, [10]) are not written here: they are an array of their own, and
+// `registers` writes it.
 use act::Step;
 use rules::START;
 use rules::Scalars;
@@ -12,7 +13,7 @@ ghost use Rattle.rules.specs.Registers.{inTable, tableWrite, pick, dmaArms, dma
 ghost use Rattle.act.specs.Lent.{_⇒_};
 ghost use Rattle.act.specs.Worlds.{OnTable};
 ghost use Rattle.dma_commands.specs.Commands.{OnNumbers, Commands};
-ghost use Rattle.dma_read.specs.Access.{Fair};
+ghost use Rattle.dma_read.specs.Access.{Fair, isPriority};
 ghost use Rattle.dma.specs.Started.{startsIn};
 
 // ---- is there such a register: refusal 3 comes before anything is done, and so this is asked apart
@@ -185,7 +186,7 @@ fn word_written(
 
 // ---- bytes
 
-// A command byte; the priorities of the channels, 0x100..0x13F, are not kept.
+// A command byte.
 fn byte_written(
     s: Step,
     table: &mut [u8; 2048],
@@ -194,7 +195,7 @@ fn byte_written(
     v: u32,
     journal: &mut [u8],
 ) -> Step
-    requires { ⌜ inTable off ≡ false ⌝ }
+    requires { ⌜ (inTable off ≡ false) × (isPriority off 1 ≡ false) ⌝ }
     ensures { λ r. ⌜ Commands (orNothing (dmaWrite off 1 v)) (now (pending .entry)) s r ⇒ journal ⇒ table ⌝ }
 {
     if masks::within(0x18, 0x1F, off) {
@@ -206,7 +207,7 @@ fn byte_written(
 // ---- any register
 
 // "Registers are exactly the arms of [..] `edma_write` [..], and the descriptor table at DMA offsets 0x1000..0x17FF." Where there is no such
-// register, nothing is done.
+// register, nothing is done. A priority is no register here.
 pub fn edma_write(
     s: Step,
     table: &mut [u8; 2048],
@@ -216,7 +217,7 @@ pub fn edma_write(
     v: u32,
     journal: &mut [u8],
 ) -> Step
-    requires { ⌜ Fair off size ⌝ }
+    requires { ⌜ Fair off size × (isPriority off size ≡ false) ⌝ }
     ensures { λ r. ⌜ Commands (orNothing (dmaWrite off size v)) (now (pending .entry)) s r ⇒ journal ⇒ table ⌝ }
 {
     if masks::within(0x1000, 0x17FF, off) {

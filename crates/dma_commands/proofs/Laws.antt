@@ -13,7 +13,7 @@ use Rattle.rules.specs.Act.{Act, Field, table, store, change, when, _>>_}
 use Rattle.rules.specs.Scalars.{ERQ, KICK, viewScalars}
 use Rattle.rules.specs.Bytes.{number, part}
 use Rattle.rules.specs.Carry.{Out, Lent}
-use Rattle.rules.specs.Fields.{bitsOf, holds, withField}
+use Rattle.rules.specs.Fields.{bitsOf, bitsIn, holds, withField}
 use Rattle.rules.specs.Registers.{named, flagOne, flagEach, setRequests, setStarts, command, commands}
 use Rattle.rules.specs.Run.{requesting}
 use Rattle.rules.specs.With.{withScalars, withTable, withMajors}
@@ -34,7 +34,7 @@ use Rattle.dma_commands.specs.Commands.{flagged, OnNumbers}
 -- ---- masks
 
 -- a mask of 64 bits loses, or gains, the named channels
-module _ (d : Device) (f : Field) (wide : bitsOf f ≡ 64) (fits : holds f d < 2 ^ 64) (v : ℕ) {m : ℕ} (e : m ≡ named v) where
+module _ (d : Device) (f : Field) (wide : bitsIn (d .chip) f ≡ 64) (fits : holds f d < 2 ^ 64) (v : ℕ) {m : ℕ} (e : m ≡ named v) where
   pub lost : {x : ℕ} → x ≡ without (holds f d) m → Does (change f (λ k. without k (named v))) d (withField f x d)
   lost q = rw (q, e) (does-change d f (λ k. without k (named v)) (rw wide (lt-of-le-of-lt (without-le (holds f d) (named v)) fits)))
 

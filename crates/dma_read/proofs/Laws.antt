@@ -1,17 +1,22 @@
 -- The cases of `dmaRead`, and of the sizes. Assumes nothing.
 use mathlib.Core.Bool.{Bool, true, false, not, _||_}
+use mathlib.Core.List.{List}
 use mathlib.Core.Option.{none, some}
 use mathlib.Core.Path.{_≡_, refl}
-use Prim.Native.Nat.{ℕ, _-_, _≤_, _<_}
+use Prim.Native.Nat.{ℕ, _-_, _%_, _≤_, _<_}
 use native.Mathlib.Omega.{arith}
 use borrow.Author.Tests.{eqb-true, eqb-false, ne-eqb}
 use lib.Dec.{eqb}
+use lib.ListN.{getD}
 use Rattle.rules.specs.State.{Device}
-use Rattle.rules.specs.Act.{table}
+use Rattle.rules.specs.Act.{table, PRIORITY}
 use Rattle.rules.specs.Bytes.{number, part}
 use Rattle.rules.specs.Calls.{badSize}
 use Rattle.rules.specs.Carry.{legal}
+use Rattle.rules.specs.Fields.{holds}
 use Rattle.rules.specs.Registers.{within, inTable, lookUp, dmaCells, dmaRead}
+use Rattle.rules.specs.View.{viewPriorities}
+use Rattle.rules.proofs.ViewLaws.{six-viewed}
 use Rattle.masks.proofs.Ranges.{never}
 
 -- a size that is neither 1 nor 2 is 4
@@ -63,9 +68,19 @@ module _ (d : Device) (off : ℕ) where
     unfolding dmaRead
     read-command f = rw (e, f)
 
-    pub read-no-byte : within 0x18 0x1F off ≡ false → none ≡ dmaRead d off 1
-    unfolding dmaRead
-    read-no-byte f = rw (e, f, no-byte)
+    -- a byte that is no command: a priority, in the chip's mode, or none
+    module _ (f : within 0x18 0x1F off ≡ false) where
+      pub read-old-byte : d .chip ≡ false → none ≡ dmaRead d off 1
+      unfolding dmaRead
+      read-old-byte g = rw (e, f, no-byte, g)
+
+      pub read-no-byte : within 0x100 0x13F off ≡ false → none ≡ dmaRead d off 1
+      unfolding dmaRead
+      read-no-byte g = rw (e, f, no-byte, g, never (d .chip))
+
+      pub read-priority : {v : ℕ} → d .chip ≡ true → within 0x100 0x13F off ≡ true → v ≡ holds (PRIORITY (off - 0x100)) d → some v ≡ dmaRead d off 1
+      unfolding dmaRead
+      read-priority g h k = rw (e, f, g, h, k)
 
     -- all others are words
     pub read-no-size : (size : ℕ) → (size ≡ 1 → ⊥) → (size ≡ 4 → ⊥) → none ≡ dmaRead d off size
@@ -74,4 +89,8 @@ module _ (d : Device) (off : ℕ) where
 
     pub read-cell : lookUp off 4 (dmaCells d) ≡ dmaRead d off 4
     unfolding dmaRead
-    read-cell = rw e
+    read-cell = rw (e, never (d .chip))
+
+-- six bits of a priority, in the chip's mode
+pub six-read : {chip : Bool} (l : List ℕ) (ch : ℕ) {v : ℕ} → chip ≡ true → v ≡ getD l ch 0 % 64 → v ≡ getD (viewPriorities chip l) ch 0
+six-read l ch e f = rw (e, f) (six-viewed l ch)

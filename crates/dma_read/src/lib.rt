@@ -3,7 +3,7 @@ use intc::Cell;
 use rules::Device;
 ghost use mathlib.Core.Path.{_≡_};
 ghost use mathlib.Core.Bool.{false};
-ghost use Prim.Native.Nat.{_+_, _≤_};
+ghost use Prim.Native.Nat.{_+_, _%_, _≤_};
 ghost use Rattle.rules.specs.View.{view};
 ghost use Rattle.rules.specs.Bytes.{number, part};
 ghost use Rattle.rules.specs.Calls.{badSize};
@@ -25,13 +25,27 @@ pub fn tcd_read(d: Device, off: u32, size: u32) -> u32
     }
 }
 
-// A byte: the command bytes read 0.
+// "The low six bits of the bytes at DMA offsets 0x100 to 0x13F, whose upper two bits [..] read 0."
+fn low_six(x: u8) -> u32
+    ensures { λ r. ⌜ r ≡ x % 64 ⌝ }
+{
+    (x % 64) as u32
+}
+
+// A byte: the command bytes read 0; in the chip's mode priorities are readable too ([10]).
 fn read_byte(d: Device, off: u32) -> Cell
     requires { ⌜ inTable off ≡ false ⌝ }
     ensures { λ r. ⌜ reads r ≡ dmaRead (view d) off 1 ⌝ }
 {
     if masks::within(0x18, 0x1F, off) {
         return Cell::Value(0);
+    }
+    if !d.chip {
+        return Cell::Nothing;
+    }
+    if masks::within(0x100, 0x13F, off) {
+        let priorities = d.priorities;
+        return Cell::Value(low_six(priorities[(off - 0x100) as usize]));
     }
     Cell::Nothing
 }

@@ -21,7 +21,7 @@ use Rattle.rules.proofs.Each.{Proper}
 use Rattle.rules.proofs.Keeps.{AtEnd, Good}
 use Rattle.rules.proofs.Took.{Underway, go-underway}
 use Rattle.rules.proofs.Undo.{asIn}
-use Rattle.act.specs.Parts.{Arrays, working, whole, toldDone}
+use Rattle.act.specs.Parts.{Arrays, ordered, working, whole, toldDone}
 use Rattle.act.specs.Worlds.{world, cameTo, flowOf, walkOf}
 use Rattle.act.specs.declared.Core.{Core}
 use Rattle.act.specs.declared.Done.{Done}
@@ -33,7 +33,7 @@ use Rattle.journal.specs.Undoing.{machineOf, RolledBack}
 use Rattle.journal.proofs.Back.{rolled-stores, rolled-journal}
 use Rattle.closing.specs.Closes.{noting, addAll, addEnd, Notes, Part, coreIn}
 use Rattle.closing.specs.declared.Noted.{Noted}
-use Rattle.closing.proofs.Parts.{same, same-part, all-noted}
+use Rattle.closing.proofs.Parts.{same-part, same-taken, all-noted}
 use Rattle.acting.specs.Ending.{Settled, Settles, begunAt, endAt, doneBy, remaining, refusedBy}
 use Rattle.acting.specs.declared.Reached.{Reached}
 use Rattle.acting.proofs.Laws.{since-then, front-then, told-made, told-unmade, core-kept, stands-new, stands-old}
@@ -61,7 +61,7 @@ module _ (k : Core) (s : Reached) (x : Arrays) (tb tb′ b b′ m m′ p p′ : 
     noted =
         end
         ∙ ap (addEnd used)
-        (all-noted k (s .core) before after n₀ j core times counts waits (same-part k (s .core) before proper (went .levels) t₄ j₄) (same 576 (x .taken) t₄ j₄)
+        (all-noted k (s .core) before after n₀ j core times counts waits (same-part k (s .core) before proper (went .levels) t₄ j₄) (same-taken k before proper t₄ j₄) refl
         ∙ ap (λ (z : Noted). addAll (changed 0 (fieldsOf (whole k before)) (fieldsOf (whole (s .core) after))) (noting z j)) begins)
 
     pub turns-ended : Ended k before after s₀ r base lent act w j₀ w′ j j₅ used
@@ -126,11 +126,14 @@ module _ (base : ℕ) (lent : Lent) (act : Act (Unit {0})) (d : Device) (w j : L
 
 -- ---- a run's
 
-module _ (again : Bool) (time pace base : ℕ) (k : Core) (x : Arrays) (w s j tb b m p : List ℕ) (used : ℕ) (t : Flow) (b₁ : List ℕ) (begins : Begins again time (k .scalars) t b b₁ p used)
-    (r : Step) (w′ s′ j′ tb′ b′ m′ p′ : List ℕ) (ran : RunsAll time pace base t r w w′ s s′ j j′ tb tb′ b₁ b′ m m′ p p′)
-    (proper : Proper (whole k (working x tb b m p))) (bytes : Bytes w) (below : base + length w ≤ 2 ^ 32) (fits : used ≤ length j)
+module _ (again chip : Bool) (o : List ℕ) (time pace base : ℕ) (k : Core) (y : Arrays) (w s j tb b m p : List ℕ) (used : ℕ) (t : Flow) (b₁ : List ℕ) (begins : Begins again time (k .scalars) t b b₁ p used)
+    (r : Step) (w′ s′ j′ tb′ b′ m′ p′ : List ℕ) (ran : RunsAll again chip o time pace base t r w w′ s s′ j j′ tb tb′ b₁ b′ m m′ p p′)
+    (proper : Proper (whole k (working (ordered y o chip) tb b m p))) (bytes : Bytes w) (below : base + length w ≤ 2 ^ 32) (fits : used ≤ length j)
     (e : Reached) (settles : Settles k r e) (q : Done) (j₂ : List ℕ) {b₀ m₀ p₀ : List ℕ} (closes : EndsTurns k e used q b₀ b′ m₀ m′ p₀ p′ j′ j₂) (same-b : b₀ ≡ b) (same-m : m₀ ≡ m) (same-p : p₀ ≡ p)
   where
+    abbrev x : Arrays
+    x = ordered y o chip
+
     abbrev lends : Lent
     lends = lending (length s)
 
@@ -141,7 +144,9 @@ module _ (again : Bool) (time pace base : ℕ) (k : Core) (x : Arrays) (w s j tb
     new = working x tb′ b′ m′ p′
 
     goes : cameTo r (whole k new) w′ j′ tb′ m′ ≡ go base lends (turnsOf again time pace) (worldOf (whole k old) w j used)
-    goes = ran .does (whole k new) ∙ sym (begins pace base lends (k .controllers) (k .«ignore_masks») x tb m w j)
+    goes =
+        ran .does (whole k new) (begins .proper (k .controllers) (k .«ignore_masks») x tb m w j proper) refl refl
+        ∙ sym (begins .goes pace base lends (k .controllers) (k .«ignore_masks») x tb m w j)
 
     ended : Ended k old new r q base lends (turnsOf again time pace) w j w′ j′ j₂ used
     ended = (rw (same-b, same-m, same-p) at closes) x tb tb′ r base lends (turnsOf again time pace) w j w′ proper fits (settles new base lends (turnsOf again time pace) (whole k old) w j w′ j′ used proper fits goes)

@@ -1,4 +1,4 @@
-// The public calls run and service: document 01, "The calls" and "Run, service, controllers".
+// The public calls run and service: document 01, "The calls" and "Run, service, controllers", with document 02's [10].
 // Their contracts fix all that is there after a call, for all inputs (crate `rules`, specs/Calls.antt, `after`). All is done on a device in parts: its
 // core by value, and its arrays lent (`run_in`). A call on a device by value takes it apart once and puts it together once. (Copies of the device are
 // what a short run would spend most of its time on.)
@@ -12,15 +12,16 @@ use rules::Device;
 use rules::Refusal;
 use rules::Scalars;
 use rules::Verdict;
-ghost use mathlib.Core.Bool.{true};
+ghost use mathlib.Core.Bool.{true, _&&_};
 ghost use mathlib.Core.Path.{_≡_};
 ghost use Prim.Native.Nat.{_+_, _^_, _≤_};
+ghost use lib.Dec.{eqb};
 ghost use lib.ListN.{length};
 ghost use Rattle.rules.specs.View.{view};
-ghost use Rattle.rules.specs.Calls.{verdictNumber, wrong, run as runCall, service as serviceCall, toldActed, after};
-ghost use Rattle.act.specs.Lent.{_⇒_};
-ghost use Rattle.act.specs.Parts.{Arrays};
-ghost use Rattle.engine.specs.Runs.{RunsAll, Begins, EndsTurns, Carries, Runs};
+ghost use Rattle.rules.specs.Calls.{verdictNumber, wrong, run as runCall, service as serviceCall, toldActed, Spared, after};
+ghost use Rattle.act.specs.Lent.{_⇒_, by};
+ghost use Rattle.act.specs.Parts.{Arrays, ordered};
+ghost use Rattle.engine.specs.Runs.{TakesTurns, RunsAll, Begins, EndsTurns, Carries, Runs};
 
 // Refusals 5, 6 and 7, in that order.
 fn tested(time: u64, pace: u64, base: u32, window: usize, journal: usize, used: usize) -> Verdict
@@ -40,8 +41,17 @@ fn tested(time: u64, pace: u64, base: u32, window: usize, journal: usize, used: 
 
 // ---- the turns of a run
 
-// All turns of a run. "Staging is [..] all zero after every other run or service."
-fn run_all(
+// "Service: [..] a run follows if KICK is not 0": else there are no turns.
+fn idle(again: bool, kick: u64) -> bool
+    ensures { λ r. ⌜ r ≡ (again && eqb kick 0) ⌝ }
+{
+    again && kick == 0
+}
+
+// The turns of a run, or those that follow a service (`again`), as the mode makes them.
+fn take_turns(
+    again: bool,
+    chip: bool,
     t: Flow,
     time: u64,
     pace: u64,
@@ -51,13 +61,33 @@ fn run_all(
     busy: &mut [u64; 64],
     majors: &mut [u64; 64],
     pending: &mut [u32; 64],
+    priorities: &[u8; 64],
     staging: &mut [u8],
     journal: &mut [u8],
 ) -> Step
     requires { ⌜ (time ≤ 2 ^ 62) × (pace ≤ 1000000) ⌝ }
-    ensures { λ r. ⌜ RunsAll time pace base t r ⇒ window ⇒ staging ⇒ journal ⇒ table ⇒ busy ⇒ majors ⇒ pending ⌝ }
+    ensures { λ r. ⌜ TakesTurns again chip (now (priorities .entry)) time pace base (by staging) t r ⇒ window ⇒ journal ⇒ table ⇒ busy ⇒ majors ⇒ pending ⌝ }
 {
-    let s = turns::run_dma_inner(
+    if idle(again, t.scalars.kick) {
+        return Step::Going(t);
+    }
+    if chip {
+        return chip::run_chip(
+            t,
+            time,
+            pace,
+            base,
+            window,
+            table,
+            busy,
+            majors,
+            pending,
+            priorities,
+            staging,
+            journal,
+        );
+    }
+    turns::run_dma_inner(
         t,
         time,
         pace,
@@ -67,6 +97,44 @@ fn run_all(
         busy,
         majors,
         pending,
+        staging,
+        journal,
+    )
+}
+
+// All of them. "Staging is [..] all zero after every other run or service."
+fn run_all(
+    again: bool,
+    chip: bool,
+    t: Flow,
+    time: u64,
+    pace: u64,
+    base: u32,
+    window: &mut [u8],
+    table: &mut [u8; 2048],
+    busy: &mut [u64; 64],
+    majors: &mut [u64; 64],
+    pending: &mut [u32; 64],
+    priorities: &[u8; 64],
+    staging: &mut [u8],
+    journal: &mut [u8],
+) -> Step
+    requires { ⌜ (time ≤ 2 ^ 62) × (pace ≤ 1000000) ⌝ }
+    ensures { λ r. ⌜ RunsAll again chip (now (priorities .entry)) time pace base t r ⇒ window ⇒ staging ⇒ journal ⇒ table ⇒ busy ⇒ majors ⇒ pending ⌝ }
+{
+    let s = take_turns(
+        again,
+        chip,
+        t,
+        time,
+        pace,
+        base,
+        window,
+        table,
+        busy,
+        majors,
+        pending,
+        priorities,
         staging,
         journal,
     );
@@ -148,6 +216,7 @@ fn end_turns(
 // those at entry.
 fn carried(
     again: bool,
+    chip: bool,
     k: Core,
     time: u64,
     pace: u64,
@@ -160,16 +229,19 @@ fn carried(
     majors_now: &mut [u64; 64],
     pending: &[u32; 64],
     pending_now: &mut [u32; 64],
+    priorities: &[u8; 64],
     staging: &mut [u8],
     journal: &mut [u8],
     used: usize,
 ) -> Done
     requires { ⌜ (time ≤ 2 ^ 62) × (pace ≤ 1000000) × (used ≤ length (now journal)) × (base + length (now window) ≤ 2 ^ 32) × (now busy ≡ now «busy_now») × (now majors ≡ now «majors_now») × (now pending ≡ now «pending_now») ⌝ }
-    ensures { λ r. ⌜ (Carries again time pace base k r ⇒ window ⇒ staging ⇒ journal ⇒ table ⇒ «busy_now» ⇒ «majors_now» ⇒ «pending_now») used ⌝ }
+    ensures { λ r. ⌜ (Carries again chip (now (priorities .entry)) time pace base k r ⇒ window ⇒ staging ⇒ journal ⇒ table ⇒ «busy_now» ⇒ «majors_now» ⇒ «pending_now») used ⌝ }
 {
     let scalars = k.scalars;
     let t = beginning(again, scalars, time, busy_now, pending_now, used);
     let s = run_all(
+        again,
+        chip,
         t,
         time,
         pace,
@@ -179,6 +251,7 @@ fn carried(
         busy_now,
         majors_now,
         pending_now,
+        priorities,
         staging,
         journal,
     );
@@ -202,10 +275,10 @@ fn carried(
     r
 }
 
-// A run, or a service (`again`), on a device in parts: after a refusal they are as at entry. "Service": "a run follows if KICK is not 0", which a run
-// of no turns does not tell from none.
+// A run, or a service (`again`), on a device in parts: after a refusal they are as at entry.
 pub fn run_in(
     again: bool,
+    chip: bool,
     k: Core,
     time: u64,
     pace: u64,
@@ -215,11 +288,12 @@ pub fn run_in(
     busy: &mut [u64; 64],
     majors: &mut [u64; 64],
     pending: &mut [u32; 64],
+    priorities: &[u8; 64],
     staging: &mut [u8],
     journal: &mut [u8],
     used: usize,
 ) -> Done
-    ensures { λ r. ⌜ ((x : Arrays) → (Runs again time pace base k r x ⇒ window ⇒ staging ⇒ journal ⇒ table ⇒ busy ⇒ majors ⇒ pending) used) ⌝ }
+    ensures { λ r. ⌜ ((x : Arrays) → (Runs again time pace base k r (ordered x (now (priorities .entry)) chip) ⇒ window ⇒ staging ⇒ journal ⇒ table ⇒ busy ⇒ majors ⇒ pending) used) ⌝ }
 {
     let v = tested(time, pace, base, window.len(), journal.len(), used);
     let Verdict::Accepted = v else {
@@ -234,6 +308,7 @@ pub fn run_in(
     let pending_before = *pending;
     let r = carried(
         again,
+        chip,
         k,
         time,
         pace,
@@ -246,6 +321,7 @@ pub fn run_in(
         majors,
         &pending_before,
         pending,
+        priorities,
         staging,
         journal,
         used,
@@ -272,14 +348,16 @@ pub fn run(
     journal: &mut [u8],
     used: usize,
 ) -> Acted
-    ensures { λ r. ⌜ toldActed r (now (window .exit)) (now (staging .exit)) (now (journal .exit)) ≡ after (runCall time pace) base (view d) (now (window .entry)) (now (staging .entry)) (now (journal .entry)) used ⌝ }
+    ensures { λ r. ⌜ (toldActed r (now (window .exit)) (now (staging .exit)) (now (journal .exit)) ≡ after (runCall time pace) base (view d) (now (window .entry)) (now (staging .entry)) (now (journal .entry)) used) × Spared (r .verdict) (d .priorities) (r .device .priorities) ⌝ }
 {
     let mut table = d.table;
     let mut busy = d.busy;
     let mut majors = d.majors;
     let mut pending = d.pending;
+    let priorities = d.priorities;
     let r = run_in(
         false,
+        d.chip,
         act::core_of(d),
         time,
         pace,
@@ -289,6 +367,7 @@ pub fn run(
         &mut busy,
         &mut majors,
         &mut pending,
+        &priorities,
         staging,
         journal,
         used,
@@ -299,7 +378,16 @@ pub fn run(
     Acted {
         verdict,
         used: r.used,
-        device: act::device_of(core, table, busy, majors, pending, taken),
+        device: act::device_of(
+            core,
+            table,
+            busy,
+            majors,
+            pending,
+            taken,
+            priorities,
+            d.chip,
+        ),
     }
 }
 
@@ -314,14 +402,16 @@ pub fn service(
     journal: &mut [u8],
     used: usize,
 ) -> Acted
-    ensures { λ r. ⌜ toldActed r (now (window .exit)) (now (staging .exit)) (now (journal .exit)) ≡ after (serviceCall time pace) base (view d) (now (window .entry)) (now (staging .entry)) (now (journal .entry)) used ⌝ }
+    ensures { λ r. ⌜ (toldActed r (now (window .exit)) (now (staging .exit)) (now (journal .exit)) ≡ after (serviceCall time pace) base (view d) (now (window .entry)) (now (staging .entry)) (now (journal .entry)) used) × Spared (r .verdict) (d .priorities) (r .device .priorities) ⌝ }
 {
     let mut table = d.table;
     let mut busy = d.busy;
     let mut majors = d.majors;
     let mut pending = d.pending;
+    let priorities = d.priorities;
     let r = run_in(
         true,
+        d.chip,
         act::core_of(d),
         time,
         pace,
@@ -331,6 +421,7 @@ pub fn service(
         &mut busy,
         &mut majors,
         &mut pending,
+        &priorities,
         staging,
         journal,
         used,
@@ -341,6 +432,15 @@ pub fn service(
     Acted {
         verdict,
         used: r.used,
-        device: act::device_of(core, table, busy, majors, pending, taken),
+        device: act::device_of(
+            core,
+            table,
+            busy,
+            majors,
+            pending,
+            taken,
+            priorities,
+            d.chip,
+        ),
     }
 }

@@ -1,4 +1,5 @@
 pub mod Laws
 pub mod Unique
-pub mod Walls
+pub mod Lifts
 pub mod Rows
+pub mod Walls

@@ -1,25 +1,38 @@
 // The C entries: for C or Rust to link. Each is thin: image to device, the call, device to image; docs/ABI.md says what they are given and answer.
 // Their contracts are those of the calls between two images (specs/Entry.antt).
 use rules::Acted;
+use rules::Device;
+use rules::Verdict;
 ghost use mathlib.Core.List.{[]};
 ghost use mathlib.Core.Path.{_≡_};
 ghost use Prim.Native.Nat.{_%_, _^_};
 ghost use lib.ListN.{length};
 ghost use Rattle.rules.specs.Calls.{verdictNumber, after, afterBack, afterRead, write, inputs, pending, run, service, ack};
 ghost use Rattle.rules.specs.View.{view};
-ghost use Rattle.image.specs.Image.{imageOf, deviceIn};
+ghost use Rattle.image.specs.Image.{deviceIn};
 ghost use Rattle.answers.specs.Answers.{packed, left};
-ghost use Rattle.entries.specs.Entry.{entered, Aside, enteredRead, freshened};
+ghost use Rattle.entries.specs.Entry.{imageAfter, entered, Aside, enteredRead, freshened};
 
 // ---- answers
+
+// A device laid down where the call that answers it was accepted; after a refusal the image is as it was, byte by byte.
+fn lay_down(image: &mut [u8], v: Verdict, d: Device)
+    requires { ⌜ length (now image) ≡ 8720 ⌝ }
+    ensures { λ _. ⌜ now (image .exit) ≡ imageAfter (now (image .entry)) (verdictNumber v) (view d) ⌝ }
+{
+    let Verdict::Accepted = v else {
+        return;
+    };
+    image::put_device(image, d);
+}
 
 // The device that an act or a take-back answers, laid down; and its answer.
 fn put_back(image: &mut [u8], r: Acted) -> u64
     requires { ⌜ length (now image) ≡ 8720 ⌝ }
-    ensures { λ n. ⌜ (n ≡ packed (verdictNumber (r .verdict)) 0 0 (r .used)) × (now (image .exit) ≡ imageOf (view (r .device))) ⌝ }
+    ensures { λ n. ⌜ (n ≡ packed (verdictNumber (r .verdict)) 0 0 (r .used)) × (now (image .exit) ≡ imageAfter (now (image .entry)) (verdictNumber (r .verdict)) (view (r .device))) ⌝ }
 {
-    image::put_device(image, r.device);
     let v = r.verdict;
+    lay_down(image, v, r.device);
     answers::answer_of(v, r.used)
 }
 
@@ -27,8 +40,8 @@ fn put_back(image: &mut [u8], r: Acted) -> u64
 
 // A fresh device is laid down, whatever stood there.
 #[no_mangle]
-pub extern "C" fn kp_fresh(image: &mut [u8], ignore_masks: u32) -> u64
-    ensures { λ r. ⌜ left r (now (image .exit)) [] [] [] ≡ freshened (now (image .entry)) «ignore_masks» ⌝ }
+pub extern "C" fn kp_fresh(image: &mut [u8], ignore_masks: u32, mode: u32) -> u64
+    ensures { λ r. ⌜ left r (now (image .exit)) [] [] [] ≡ freshened (now (image .entry)) «ignore_masks» mode ⌝ }
 {
     if image.len() != image::BYTES {
         return answers::packed(255, 0, 0, 0);
@@ -36,7 +49,10 @@ pub extern "C" fn kp_fresh(image: &mut [u8], ignore_masks: u32) -> u64
     if 1 < ignore_masks {
         return answers::packed(255, 0, 0, 0);
     }
-    image::put_device(image, device::fresh(ignore_masks == 1));
+    if 1 < mode {
+        return answers::packed(255, 0, 0, 0);
+    }
+    image::put_device(image, device::fresh(ignore_masks == 1, mode == 1));
     0
 }
 
@@ -159,9 +175,9 @@ pub extern "C" fn kp_acknowledge(image: &mut [u8], ipl: u32, journal: &mut [u8],
     }
     let d = image::get_device(image);
     let a = registers::acknowledge(d, (ipl % 0x100) as u8, journal, used as usize);
-    image::put_device(image, a.device);
     let v = a.verdict;
     let h = a.heard;
+    lay_down(image, v, a.device);
     answers::heard_answer(v, h, a.used)
 }
 

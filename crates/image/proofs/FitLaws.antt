@@ -1,5 +1,5 @@
--- The bytes that are an image, number by number: the device that stands in them is laid down as they are exactly if the setting's bytes are
--- a setting's and no number is wider than its bits. Assumes nothing.
+-- The bytes that are an image, number by number: the device that stands in them is laid down as they are exactly if the settings' bytes are
+-- those of settings and no number is wider than its bits. Assumes nothing.
 use mathlib.Core.Bool.{Bool, true, false, cond, _&&_, false≢true, and-assoc, and-true}
 use mathlib.Core.List.{List, [], _∷_, _++_}
 use mathlib.Core.Path.{_≡_, refl, sym, ap, ap₂, _∙_, subst}
@@ -9,7 +9,7 @@ use native.Mathlib.Nat.{zero-add, add-zero, add-suc, suc-add, zero-mul, sub-zero
 use native.Mathlib.Omega.{arith}
 use borrow.Author.Tests.{eqb-true, eq-eqb, ltb-true, lt-ltb}
 use lib.Dec.{eqb, ltb}
-use lib.ListN.{length, getD, drop, replicate, length-append}
+use lib.ListN.{length, getD, set, drop, replicate, length-append}
 use lib.Pow.{pow-pos, split}
 use lib.Seq.{drop-cons, drop-length}
 use Rattle.rules.specs.Bytes.{Bytes, bytes, number, part}
@@ -19,10 +19,10 @@ use Rattle.rules.proofs.BoolLaws.{and-left, and-right, and-both}
 use Rattle.rules.proofs.BytesLaws.{splice-part, length-bytes, value-fits, length-part, part-append, part-back, part-lt}
 use Rattle.rules.proofs.FieldLaws.{sizes, bitParts}
 use Rattle.device.specs.Spots.{cut}
-use Rattle.image.specs.Image.{laid, settingBytes, imageOf, numberIn, numbersIn, scalarsIn, controllerIn, deviceIn, alike, isImage}
+use Rattle.image.specs.Image.{laid, settingBytes, imageOf, numberIn, numbersIn, scalarsIn, controllerIn, chipIn, deviceIn, heldBits, heldIn, alike, isImage}
 use Rattle.image.specs.Fits.{fitsIn, settingFits, scalarsFit, ownBits}
-use Rattle.image.proofs.Laws.{splice-all, number-of, flag-laid, scalars-got, alike-same, alike-self, alike-append}
-use Rattle.image.proofs.Rows.{joined-more, total, length-joined, length-flagged}
+use Rattle.image.proofs.Laws.{splice-all, number-of, flags, flags-laid, scalars-got, alike-same, alike-self, alike-append}
+use Rattle.image.proofs.Rows.{total, length-joined, length-flagged}
 
 -- ---- two tests that say the same
 
@@ -168,16 +168,16 @@ joined-fit (w ∷ ws) b n = fits-append w (joined ws) b n ∙ ap (λ t. fitsIn w
 
 -- ---- the image
 
--- the bits of the fields, and of 64 numbers that name none
-unfoldable pub rowBits : List (List ℕ)
-rowBits = bitParts ++ replicate 64 0 ∷ []
+-- the bits that the fields may have in an image of a mode: those that they have in it, but for priorities
+unfoldable pub rowBits : Bool → List (List ℕ)
+rowBits chip = set (bitParts chip) 11 (replicate 64 (heldBits chip))
 
-rows-long : length (joined rowBits) ≡ 832
+rows-long : (chip : Bool) → length (joined (rowBits chip)) ≡ 832
 unfolding total rowBits bitParts
-rows-long = length-joined (sizes ++ 64 ∷ []) rowBits (refl, (refl, (refl, (refl, (refl, (refl, (refl, (refl, (refl, (refl, (refl, (refl, tt))))))))))))
+rows-long chip = length-joined sizes (rowBits chip) (refl, (refl, (refl, (refl, (refl, (refl, (refl, (refl, (refl, (refl, (refl, (refl, tt))))))))))))
 
-rows-read : (b : List ℕ) → Read rowBits (partsOf (deviceIn b) ++ replicate 64 0 ∷ []) b 0
-unfolding rowBits bitParts partsOf ownOf deviceIn controllerIn scalarsIn
+rows-read : (b : List ℕ) → Read (rowBits (chipIn b)) (partsOf (heldIn b)) b 0
+unfolding rowBits bitParts partsOf ownOf heldIn deviceIn controllerIn scalarsIn
 rows-read b =
     let own : List ℕ → List ℕ = λ l. masksOf (controllerIn b 0) (masksOf (controllerIn b 1) (masksOf (controllerIn b 2) l)) in (
       refl,
@@ -191,7 +191,7 @@ rows-read b =
               numbers-in 64 b 128 64,
               (
                 numbers-in 32 b 192 64,
-                (numbers-in 8 b 256 64, (numbers-in 8 b 320 64, (numbers-in 8 b 384 64, (zeros-in b 448 128, (numbers-in 64 b 576 192, (zeros-in b 768 64, tt)))))),
+                (numbers-in 8 b 256 64, (numbers-in 8 b 320 64, (numbers-in 8 b 384 64, (zeros-in b 448 128, (numbers-in 64 b 576 192, (numbers-in (heldBits (chipIn b)) b 768 64, tt)))))),
               ),
             ),
           ),
@@ -199,14 +199,13 @@ rows-read b =
       ),
     )
 
-fields-fit : (b : List ℕ) → Bytes b → alike (laid (fieldsOf (deviceIn b) ++ replicate 64 0)) (part b 2064 6656) ≡ fitsIn (joined rowBits) b 0
+fields-fit : (b : List ℕ) → Bytes b → alike (laid (fieldsOf (heldIn b))) (part b 2064 6656) ≡ fitsIn (joined (rowBits (chipIn b))) b 0
 unfolding fieldsOf
 fields-fit b h =
-    let parts = partsOf (deviceIn b) in
-    let read : joined parts ++ replicate 64 0 ≡ scalarsIn (joined rowBits) b 0 = sym (joined-more parts (replicate 64 0)) ∙ joined-in rowBits (parts ++ replicate 64 0 ∷ []) b 0 (rows-read b) in
-    ap (λ l. alike (laid l) (part b 2064 6656)) read
-    ∙ ap (λ n. alike (laid (scalarsIn (joined rowBits) b 0)) (part b 2064 (8 * n))) (sym rows-long)
-    ∙ bytes-fit b h (joined rowBits) 0
+    let bits = joined (rowBits (chipIn b)) in
+    ap (λ l. alike (laid l) (part b 2064 6656)) (joined-in (rowBits (chipIn b)) (partsOf (heldIn b)) b 0 (rows-read b))
+    ∙ ap (λ n. alike (laid (scalarsIn bits b 0)) (part b 2064 (8 * n))) (sym (rows-long (chipIn b)))
+    ∙ bytes-fit b h bits 0
 
 -- bytes as the table, the setting and the fields
 in-three-parts : (b : List ℕ) → length b ≡ 8720 → b ≡ (part b 0 2048 ++ part b 2048 16) ++ part b 2064 6656
@@ -214,14 +213,15 @@ in-three-parts b l =
     sym (splice-part b 0 (length b)) ∙ splice-all b (part b 0 (length b)) (length-part b 0 (length b))
     ∙ ap (part b 0) l ∙ part-append b 0 2064 6656 ∙ ap (λ p. p ++ part b 2064 6656) (part-append b 0 2048 16)
 
-pub image-fits : (b : List ℕ) → length b ≡ 8720 → Bytes b → isImage b ≡ settingFits b && fitsIn (joined rowBits) b 0
-unfolding isImage imageOf settingFits deviceIn
+pub image-fits : (b : List ℕ) → length b ≡ 8720 → Bytes b → isImage b ≡ settingFits b && fitsIn (joined (rowBits (chipIn b))) b 0
+unfolding isImage imageOf settingFits heldIn deviceIn
 image-fits b l h =
     let table = part b 0 2048 in
-    let flag = settingBytes (eqb (getD b 2048 0) 1) in
+    let ignore = eqb (getD b 2048 0) 1 in
+    let flag = settingBytes ignore (chipIn b) in
     let there = part b 2048 16 in
-    let fields = laid (fieldsOf (deviceIn b) ++ replicate 64 0) in
-    let same : length flag ≡ length there = length-flagged (eqb (getD b 2048 0) 1) ∙ sym (length-part b 2048 16) in
+    let fields = laid (fieldsOf (heldIn b)) in
+    let same : length flag ≡ length there = length-flagged ignore (chipIn b) ∙ sym (length-part b 2048 16) in
     let long : length (table ++ flag) ≡ length (table ++ there) = length-append table flag ∙ ap (λ n. length table + n) same ∙ sym (length-append table there) in
     ap (alike ((table ++ flag) ++ fields)) (in-three-parts b l)
     ∙ alike-append (table ++ flag) fields (table ++ there) (part b 2064 6656) long
@@ -247,6 +247,10 @@ module _ (bits : ℕ) (b : List ℕ) (from count : ℕ) where
       → eqb (most / 2 ^ bits) 0 ≡ fitsIn (replicate count bits) b from
   row-all left most e p = none-above bits most ∙ p ∙ ap (λ n. fitsIn (replicate (count - n) bits) b (from + n)) e ∙ rw (sub-zero count, add-zero from)
 
+pub held-small : (chip : Bool) {bits : ℕ} → bits ≡ heldBits chip → bits < 64
+held-small true e = omega (arith, e)
+held-small false e = omega (arith, e)
+
 -- the first numbers of a list, and others beside them
 module _ (a v : List ℕ) where
   pub first-none : true ≡ alike (part a (length v) (length v - length v)) (drop (length v) v)
@@ -265,21 +269,23 @@ module _ (a v : List ℕ) where
   pub first-all : (left : ℕ) (same : Bool) → left ≡ 0 → same ≡ alike (part a left (length v - left)) (drop left v) → same ≡ alike (part a 0 (length v)) v
   first-all left same e p = p ∙ ap (λ n. alike (part a n (length v - n)) (drop n v)) e ∙ rw (sub-zero (length v))
 
--- the setting, in two numbers of 8 bytes
-pub setting-fit : (b : List ℕ) {f x y : ℕ} → Bytes b → f ≡ cond (eqb (getD b 2048 0) 1) 0x0100000000000000 0
+-- the settings, in two numbers of 8 bytes
+pub setting-fit : (b : List ℕ) {f x y : ℕ} → Bytes b → f ≡ flags (eqb (getD b 2048 0) 1) (chipIn b)
     → x ≡ number (part b 2048 8) → y ≡ number (part b 2056 8) → eqb x f && eqb y 0 ≡ settingFits b
 unfolding settingFits
 setting-fit b h e p q =
-    let s = eqb (getD b 2048 0) 1 in
-    let f : ℕ = cond s 0x0100000000000000 0 in
+    let ignore = eqb (getD b 2048 0) 1 in
+    let f : ℕ = flags ignore (chipIn b) in
     rw (e, p, q)
-    (ap₂ _&&_ (sym (alike-bytes b 8 f 2048 h (in-eight s))) (sym (alike-bytes b 8 0 2056 h (omega arith)))
+    (ap₂ _&&_ (sym (alike-bytes b 8 f 2048 h (in-eight ignore (chipIn b)))) (sym (alike-bytes b 8 0 2056 h (omega arith)))
     ∙ sym (alike-append (bytes 8 f) (bytes 8 0) (part b 2048 8) (part b 2056 8) (length-bytes 8 f ∙ sym (length-part b 2048 8)))
-    ∙ ap₂ alike (flag-laid s) (sym (part-append b 2048 8 8)))
+    ∙ ap₂ alike (flags-laid ignore (chipIn b)) (sym (part-append b 2048 8 8)))
   where
-    in-eight : (s : Bool) → cond s 0x0100000000000000 0 < 256 ^ 8
-    in-eight true = omega arith
-    in-eight false = omega arith
+    in-eight : (s t : Bool) → flags s t < 256 ^ 8
+    in-eight true true = omega arith
+    in-eight true false = omega arith
+    in-eight false true = omega arith
+    in-eight false false = omega arith
 
 -- some of the numbers that were read
 numbers-part : (bits : ℕ) (b : List ℕ) (n k i j : ℕ) → i + j ≤ k → part (numbersIn bits b n k) i j ≡ numbersIn bits b (n + i) j
@@ -312,12 +318,12 @@ own-fit b p q r s =
 levels-fit : (b : List ℕ) → fitsIn (replicate 192 8) b 256 ≡ fitsIn (replicate 64 8) b 256 && (fitsIn (replicate 64 8) b 320 && fitsIn (replicate 64 8) b 384)
 levels-fit b = fits-append (replicate 64 8) (replicate 128 8) b 256 ∙ ap (λ t. fitsIn (replicate 64 8) b 256 && t) (fits-append (replicate 64 8) (replicate 64 8) b 320)
 
-fields-asked : (b : List ℕ) → fitsIn (joined rowBits) b 0
-    ≡ scalarsFit b && (fitsIn ownBits b 16 && (fitsIn (replicate 64 32) b 192 && (fitsIn (replicate 192 8) b 256 && (fitsIn (replicate 128 0) b 448 && fitsIn (replicate 64 0) b 768))))
+fields-asked : (b : List ℕ) (chip : Bool) → fitsIn (joined (rowBits chip)) b 0
+    ≡ scalarsFit b && (fitsIn ownBits b 16 && (fitsIn (replicate 64 32) b 192 && (fitsIn (replicate 192 8) b 256 && (fitsIn (replicate 128 0) b 448 && fitsIn (replicate 64 (heldBits chip)) b 768))))
 unfolding rowBits bitParts scalarsFit
-fields-asked b = joined-fit rowBits b 0 ∙ rw (wides-fit b 64 64, wides-fit b 128 64, wides-fit b 576 192, levels-fit b) (simp (and-assoc, and-true))
+fields-asked b chip = joined-fit (rowBits chip) b 0 ∙ rw (wides-fit b 64 64, wides-fit b 128 64, wides-fit b 576 192, levels-fit b) (simp (and-assoc, and-true))
 
-pub image-asked : (b : List ℕ) {q r s t u v w : Bool} → length b ≡ 8720 → Bytes b → q ≡ settingFits b → r ≡ scalarsFit b → s ≡ fitsIn ownBits b 16
-    → t ≡ fitsIn (replicate 64 32) b 192 → u ≡ fitsIn (replicate 192 8) b 256 → v ≡ fitsIn (replicate 128 0) b 448 → w ≡ fitsIn (replicate 64 0) b 768
-    → q && r && s && t && u && v && w ≡ isImage b
-image-asked b l h p q r s t u v = rw (image-fits b l h, fields-asked b, p, q, r, s, t, u, v) (simp and-assoc)
+pub image-asked : (b : List ℕ) {q r s t u v w : Bool} {bits : ℕ} → length b ≡ 8720 → Bytes b → q ≡ settingFits b → r ≡ scalarsFit b → s ≡ fitsIn ownBits b 16
+    → t ≡ fitsIn (replicate 64 32) b 192 → u ≡ fitsIn (replicate 192 8) b 256 → v ≡ fitsIn (replicate 128 0) b 448 → bits ≡ heldBits (chipIn b)
+    → w ≡ fitsIn (replicate 64 bits) b 768 → q && r && s && t && u && v && w ≡ isImage b
+image-asked b l h p q r s t u e v = rw (image-fits b l h, fields-asked b (chipIn b), p, q, r, s, t, u, v, e) (simp and-assoc)

@@ -1,13 +1,13 @@
 -- The laws that the proofs of this crate cite: numbers laid down and read, place by place. Assumes nothing.
 use mathlib.Core.Bool.{Bool, true, false, cond, _&&_, false≢true}
-use mathlib.Core.List.{List, [], _∷_, _++_, append-nil}
+use mathlib.Core.List.{List, [], _∷_, _++_, map, append-nil}
 use mathlib.Core.Path.{_≡_, refl, sym, ap, ap₂, _∙_}
 use Prim.Native.Nat.{ℕ, zero, suc, _+_, _-_, _*_, _%_, _^_, _≤_, _<_}
 use native.Mathlib.Nat.{mod-eq-of-lt, zero-add, add-zero, add-suc, suc-add, sub-zero, sub-self, le-antisymm, not-suc-le-zero, le-of-suc-le-suc}
 use native.Mathlib.Omega.{arith}
 use borrow.Author.Tests.{eqb-true, eq-eqb, leb-true}
 use lib.Dec.{eqb, leb}
-use lib.ListN.{length, getD, set, drop, length-append, drop-of-length-le}
+use lib.ListN.{length, getD, set, drop, length-append, length-map, drop-of-length-le}
 use lib.Seq.{drop-cons, drop-length}
 use Rattle.rules.specs.Bytes.{bytes, number, part, splice}
 use Rattle.rules.specs.Scalars.{scalarBits}
@@ -15,6 +15,7 @@ use Rattle.rules.proofs.BytesLaws.{splice-append, splice-comm, splice-nil, leng
 use Rattle.rules.proofs.Cut.{splice-cut}
 use Rattle.rules.proofs.Powers.{low-low}
 use Rattle.rules.proofs.ScalarLaws.{scalar-bits}
+use Rattle.rules.proofs.ViewLaws.{map-get}
 use Rattle.device.specs.Spots.{low, cut}
 use Rattle.image.specs.Image.{laid, settingBytes, numberIn, numbersIn, scalarsIn, alike}
 
@@ -50,6 +51,21 @@ pub laid-all : (x : List ℕ) (from : ℕ) (v : List ℕ) (left : ℕ) (y : List
     → y ≡ splice x (2064 + 8 * (from + left)) (laid (drop left v)) → y ≡ splice x (2064 + 8 * from) (laid v)
 laid-all x from v left y e p = p ∙ ap (λ n. splice x (2064 + 8 * (from + n)) (laid (drop n v))) e ∙ ap (λ n. splice x (2064 + 8 * n) (laid v)) (add-zero from)
 
+-- the low six bits of each
+abbrev pub sixes : List ℕ → List ℕ
+sixes v = map (λ (x : ℕ). x % 64) v
+
+module _ (x : List ℕ) (from : ℕ) (v : List ℕ) where
+  pub sixes-none : x ≡ splice x (2064 + 8 * (from + length v)) (laid (drop (length v) (sixes v)))
+  sixes-none = rw length-map at (laid-none x from (sixes v))
+
+  pub sixes-turn : (l k u : ℕ) (y z : List ℕ) → suc k ≡ l → l ≤ length v
+      → y ≡ splice x (2064 + 8 * (from + l)) (laid (drop l (sixes v))) → u ≡ getD v k 0
+      → z ≡ splice y (2064 + 8 * (from + k)) (bytes 8 (u % 64))
+      → z ≡ splice x (2064 + 8 * (from + k)) (laid (drop k (sixes v)))
+  sixes-turn l k u y z e b p r q =
+      laid-turn x from (sixes v) l k (u % 64) y z e (omega (arith, length-map v (λ (x : ℕ). x % 64))) p (ap (λ n. n % 64) r ∙ sym (map-get (λ (x : ℕ). x % 64) v k 0)) q
+
 -- a list laid over the first bytes
 pub over-none : (x t : List ℕ) → x ≡ splice x (length t) (drop (length t) t)
 over-none x t = rw (drop-length t) (sym (splice-nil x (length t)))
@@ -68,17 +84,22 @@ over-all x t left y e p = p ∙ ap (λ n. splice x n (drop n t)) e
 pub splice-next : (x : List ℕ) (at : ℕ) (ys zs : List ℕ) → splice (splice x at ys) (at + length ys) zs ≡ splice x at (ys ++ zs)
 splice-next x at ys zs = splice-comm x at ys (at + length ys) zs (omega arith) ∙ sym (splice-append x at ys zs)
 
--- the setting
-pub flag-laid : (b : Bool) → bytes 8 (cond b 0x0100000000000000 0) ++ bytes 8 0 ≡ settingBytes b
-unfolding bytes settingBytes
-flag-laid true = refl
-flag-laid false = refl
+-- the settings
+abbrev pub flags : Bool → Bool → ℕ
+flags ignore chip = cond ignore 0x0100000000000000 0 + cond chip 0x0001000000000000 0
 
-pub flag-put : (x y z : List ℕ) (b : Bool) (f : ℕ) → f ≡ cond b 0x0100000000000000 0 → y ≡ splice x 2048 (bytes 8 f) → z ≡ splice y 2056 (bytes 8 0) → z ≡ splice x 2048 (settingBytes b)
-flag-put x y z b f e p q =
+pub flags-laid : (ignore chip : Bool) → bytes 8 (flags ignore chip) ++ bytes 8 0 ≡ settingBytes ignore chip
+unfolding bytes settingBytes
+flags-laid true true = refl
+flags-laid true false = refl
+flags-laid false true = refl
+flags-laid false false = refl
+
+pub flags-put : (x y z : List ℕ) (ignore chip : Bool) (f : ℕ) → f ≡ flags ignore chip → y ≡ splice x 2048 (bytes 8 f) → z ≡ splice y 2056 (bytes 8 0) → z ≡ splice x 2048 (settingBytes ignore chip)
+flags-put x y z ignore chip f e p q =
     let next : 2048 + length (bytes 8 f) ≡ 2056 = omega (arith, length-bytes 8 f) in
     q ∙ ap (λ l. splice l 2056 (bytes 8 0)) p ∙ ap (λ n. splice (splice x 2048 (bytes 8 f)) n (bytes 8 0)) (sym next) ∙ splice-next x 2048 (bytes 8 f) (bytes 8 0)
-    ∙ ap (splice x 2048) (ap (λ n. bytes 8 n ++ bytes 8 0) e ∙ flag-laid b)
+    ∙ ap (splice x 2048) (ap (λ n. bytes 8 n ++ bytes 8 0) e ∙ flags-laid ignore chip)
 
 -- ---- reading
 

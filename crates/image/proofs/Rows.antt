@@ -1,29 +1,34 @@
 -- The rows of an image, laid down one behind the other, are the image. Assumes nothing.
-use mathlib.Core.Bool.{Bool, true, false}
-use mathlib.Core.List.{List, [], _∷_, _++_, append-nil, append-assoc}
-use mathlib.Core.Path.{_≡_, refl, sym, ap, _∙_}
-use Prim.Native.Nat.{ℕ, _+_, _-_, _*_, _≤_}
-use native.Mathlib.Nat.{zero-add}
+use mathlib.Core.Bool.{Bool, true, false, cond}
+use mathlib.Core.List.{List, [], _∷_, _++_, map, append-nil, append-assoc}
+use mathlib.Core.Path.{_≡_, refl, sym, ap, ap₂, _∙_}
+use Prim.Native.Nat.{ℕ, zero, suc, _+_, _-_, _*_, _%_, _^_, _≤_}
+use native.Mathlib.Nat.{zero-add, mod-one, suc-inj}
 use native.Mathlib.Omega.{arith}
 use lib.Dec.{eqb}
-use lib.ListN.{length, getD, replicate, length-append, length-replicate, replicate-append-replicate}
+use lib.ListN.{length, getD, replicate, length-append, length-map, length-replicate, replicate-append-replicate}
 use Rattle.rules.specs.Scalars.{scalarBits}
-use Rattle.rules.specs.Bytes.{bytes, part, splice}
-use Rattle.rules.specs.Fields.{joined, ownOf, partsOf, fieldsOf, controller, masksOf}
+use Rattle.rules.specs.Act.{PRIORITY}
+use Rattle.rules.specs.Bytes.{bytes, number, part, splice}
+use Rattle.rules.specs.Fields.{bitsOf, bitsIn, joined, ownOf, partsOf, fieldsOf, controller, masksOf}
 use Rattle.rules.specs.State.{Controller, Device}
+use Rattle.rules.specs.View.{viewPriorities, view}
+use Rattle.rules.specs.With.{withPriorities}
+use Rattle.rules.specs.declared.Device.{Device as HeldDevice}
 use Rattle.rules.proofs.BytesLaws.{splice-append, splice-splice, length-part}
 use Rattle.rules.proofs.FieldLaws.{sizes, Sound, sized}
 use Rattle.rules.proofs.PartLaws.{Sized}
-use Rattle.image.specs.Image.{laid, settingBytes, imageOf, deviceIn, controllerIn, numbersIn, scalarsIn, isImage}
+use Rattle.rules.proofs.Powers.{low-low}
+use Rattle.image.specs.Image.{laid, settingBytes, imageOf, chipIn, deviceIn, heldBits, heldIn, controllerIn, numberIn, numbersIn, scalarsIn, isImage}
 use Rattle.image.specs.Parts.{scalarsOf, channelsOf, levelsOf, takenOf}
-use Rattle.image.proofs.Laws.{length-laid, splice-next, splice-all, length-numbers, alike-lengths, alike-same}
+use Rattle.image.proofs.Laws.{length-laid, sixes, splice-next, splice-all, length-numbers, alike-lengths, alike-same}
 
 laid-append : (xs ys : List ℕ) → laid (xs ++ ys) ≡ laid xs ++ laid ys
 unfolding laid
 laid-append [] ys = refl
 laid-append (x ∷ xs) ys = ap (λ l. bytes 8 x ++ l) (laid-append xs ys) ∙ sym (append-assoc (bytes 8 x) (laid xs) (laid ys))
 
-pub joined-more : (ps : List (List ℕ)) (v : List ℕ) → joined (ps ++ v ∷ []) ≡ joined ps ++ v
+joined-more : (ps : List (List ℕ)) (v : List ℕ) → joined (ps ++ v ∷ []) ≡ joined ps ++ v
 unfolding joined
 joined-more [] v = append-nil v
 joined-more (p ∷ ps) v = ap (λ l. p ++ l) (joined-more ps v) ∙ sym (append-assoc p (joined ps) v)
@@ -99,6 +104,10 @@ module _ (d : Device) (s : Sound d) where
   unfolding partsOf
   taken-long = sized d s .1 .1 .1 .1 .1 .1 .1 .1 .1 .1 .0
 
+  pub priorities-long : length (d .priorities) ≡ 64
+  unfolding partsOf
+  priorities-long = sized d s .1 .1 .1 .1 .1 .1 .1 .1 .1 .1 .1 .0
+
 module _ (d : Device) (s : Sound d) (x y z w u : List ℕ) where
   pub channels-laid : y ≡ splice x 2576 (laid (d .busy)) → z ≡ splice y 3088 (laid (d .majors)) → w ≡ splice z 3600 (laid (d .pending))
       → w ≡ splice x 2576 (laid (joined (channelsOf d)))
@@ -118,29 +127,50 @@ module _ (d : Device) (s : Sound d) (x y z w u : List ℕ) where
       (row-more x z w 4112 5136 (k 0 ∷ k 1 ∷ []) (k 2) (64 ∷ 64 ∷ []) (t .0, (t .1 .0, tt)) refl
       (row-more x y z 4112 4624 (k 0 ∷ []) (k 1) (64 ∷ []) (t .0, tt) refl (row-first x y 4112 (k 0) p) q) r) v
 
-  pub taken-laid : y ≡ splice x 6672 (laid (d .taken)) → z ≡ splice y 8208 (laid (replicate 64 0)) → z ≡ splice x 6672 (laid (joined (takenOf d)))
+  pub taken-laid : y ≡ splice x 6672 (laid (d .taken)) → z ≡ splice y 8208 (laid (d .priorities)) → z ≡ splice x 6672 (laid (joined (takenOf d)))
   unfolding total partsOf
   taken-laid p q =
       let t = sized d s .1 .1 .1 .1 .1 .1 .1 .1 .1 .1 in
-      row-more x y z 6672 8208 (d .taken ∷ []) (replicate 64 0) (192 ∷ []) (t .0, tt) refl (row-first x y 6672 (d .taken) p) q
+      row-more x y z 6672 8208 (d .taken ∷ []) (d .priorities) (192 ∷ []) (t .0, tt) refl (row-first x y 6672 (d .taken) p) q
+
+-- priorities: six bits of each, or none
+pub held-long : (d : HeldDevice) → Sound (view d) → length (d .priorities) ≡ 64
+held-long d s = sym (length-map (d .priorities) (λ (v : ℕ). v % 2 ^ bitsIn (d .chip) (PRIORITY 0))) ∙ priorities-long (view d) s
+
+module _ (d : HeldDevice) (s : Sound (view d)) (x y : List ℕ) where
+  pub sixes-laid : d .chip ≡ true → y ≡ splice x 8208 (laid (sixes (d .priorities))) → y ≡ splice x 8208 (laid (view d .priorities))
+  unfolding bitsOf
+  sixes-laid c e = e ∙ ap (λ b. splice x 8208 (laid (viewPriorities b (d .priorities)))) (sym c)
+
+  pub none-laid : d .chip ≡ false → y ≡ splice x 8208 (laid (replicate 64 0)) → y ≡ splice x 8208 (laid (view d .priorities))
+  unfolding bitsOf
+  none-laid c e = e ∙ ap (λ l. splice x 8208 (laid l)) (nothing (d .priorities) 64 (held-long d s)) ∙ ap (λ b. splice x 8208 (laid (viewPriorities b (d .priorities)))) (sym c)
+    where
+      nothing : (l : List ℕ) (n : ℕ) → length l ≡ n → replicate n 0 ≡ map (λ (v : ℕ). v % 1) l
+      nothing [] zero e = refl
+      nothing [] (suc n) e = absurd (omega (arith, e))
+      nothing (v ∷ l) zero e = absurd (omega (arith, e))
+      nothing (v ∷ l) (suc n) e = ap₂ (λ x r. x ∷ r) (sym (mod-one v)) (nothing l n (suc-inj e))
 
 -- ---- the image
 
-rows : (d : Device) → joined (joined (scalarsOf d) ∷ ownOf d ∷ joined (channelsOf d) ∷ joined (levelsOf d) ∷ joined (takenOf d) ∷ []) ≡ fieldsOf d ++ replicate 64 0
+rows : (d : Device) → joined (joined (scalarsOf d) ∷ ownOf d ∷ joined (channelsOf d) ∷ joined (levelsOf d) ∷ joined (takenOf d) ∷ []) ≡ fieldsOf d
 unfolding joined partsOf fieldsOf
 rows d = simp (append-assoc, append-nil)
 
-pub length-flagged : (b : Bool) → length (settingBytes b) ≡ 16
+pub length-flagged : (ignore chip : Bool) → length (settingBytes ignore chip) ≡ 16
 unfolding settingBytes
-length-flagged b = refl
+length-flagged ignore chip = refl
+
+-- what stands before the fields
+pub length-front : (d : Device) → length (d .table) ≡ 2048 → length (d .table ++ settingBytes (d .ignore) (d .chip)) ≡ 2064
+length-front d t = length-append (d .table) (settingBytes (d .ignore) (d .chip)) ∙ rw (t, length-flagged (d .ignore) (d .chip)) refl
 
 pub length-image : (d : Device) → length (d .table) ≡ 2048 → Sized sizes (partsOf d) → length (imageOf d) ≡ 8720
 unfolding total imageOf fieldsOf
 length-image d t s =
-    let f : ℕ = length (d .table ++ settingBytes (d .ignore)) in
-    let front : f ≡ 2064 = length-append (d .table) (settingBytes (d .ignore)) ∙ rw (t, length-flagged (d .ignore)) refl in
-    let n : length (joined (partsOf d) ++ replicate 64 0) ≡ 832 = length-append (joined (partsOf d)) (replicate 64 0) ∙ rw (length-joined sizes (partsOf d) s) refl in
-    length-append (d .table ++ settingBytes (d .ignore)) (laid (joined (partsOf d) ++ replicate 64 0)) ∙ rw (front, length-laid (joined (partsOf d) ++ replicate 64 0), n) refl
+    length-append (d .table ++ settingBytes (d .ignore) (d .chip)) (laid (joined (partsOf d)))
+    ∙ rw (length-front d t, length-laid (joined (partsOf d)), length-joined sizes (partsOf d) s) refl
 
 module _ (d : Device) (s : Sound d) (t : length (d .table) ≡ 2048) (x y z n a b c e : List ℕ) where
   length-scalars : length (joined (scalarsOf d)) ≡ 16
@@ -160,7 +190,7 @@ module _ (d : Device) (s : Sound d) (t : length (d .table) ≡ 2048) (x y z n a 
   length-levels = let k = sized d s .1 .1 .1 .1 .1 .1 in length-joined (64 ∷ 64 ∷ 64 ∷ 128 ∷ []) (levelsOf d) (k .0, (k .1 .0, (k .1 .1 .0, (refl, tt))))
 
   fields-laid : n ≡ splice z 2064 (laid (joined (scalarsOf d))) → a ≡ splice n 2192 (laid (ownOf d)) → b ≡ splice a 2576 (laid (joined (channelsOf d)))
-      → c ≡ splice b 4112 (laid (joined (levelsOf d))) → e ≡ splice c 6672 (laid (joined (takenOf d))) → e ≡ splice z 2064 (laid (fieldsOf d ++ replicate 64 0))
+      → c ≡ splice b 4112 (laid (joined (levelsOf d))) → e ≡ splice c 6672 (laid (joined (takenOf d))) → e ≡ splice z 2064 (laid (fieldsOf d))
   unfolding total
   fields-laid j f g h i =
       let h0 = joined (scalarsOf d) in
@@ -174,49 +204,70 @@ module _ (d : Device) (s : Sound d) (t : length (d .table) ≡ 2048) (x y z n a 
       (row-more z n a 2064 2192 (h0 ∷ []) h1 (16 ∷ []) (length-scalars, tt) refl (row-first z n 2064 h0 j) f) g) h) i
       ∙ ap (λ l. splice z 2064 (laid l)) (rows d)
 
-  pub image-laid : length x ≡ 8720 → y ≡ splice x 0 (d .table) → z ≡ splice y 2048 (settingBytes (d .ignore)) → n ≡ splice z 2064 (laid (joined (scalarsOf d)))
+  pub image-laid : length x ≡ 8720 → y ≡ splice x 0 (d .table) → z ≡ splice y 2048 (settingBytes (d .ignore) (d .chip)) → n ≡ splice z 2064 (laid (joined (scalarsOf d)))
       → a ≡ splice n 2192 (laid (ownOf d)) → b ≡ splice a 2576 (laid (joined (channelsOf d))) → c ≡ splice b 4112 (laid (joined (levelsOf d)))
       → e ≡ splice c 6672 (laid (joined (takenOf d))) → e ≡ imageOf d
   unfolding imageOf
   image-laid l p q j f g h i =
-      let flag = settingBytes (d .ignore) in
-      let ns = laid (fieldsOf d ++ replicate 64 0) in
+      let flag = settingBytes (d .ignore) (d .chip) in
+      let ns = laid (fieldsOf d) in
       let front : z ≡ splice x 0 (d .table ++ flag) = q ∙ ap (λ m. splice m 2048 flag) p ∙ ap (λ n. splice (splice x 0 (d .table)) n flag) (sym (zero-add (length (d .table)) ∙ t)) ∙ splice-next x 0 (d .table) flag in
-      let long : length (d .table ++ flag) ≡ 2064 = length-append (d .table) flag ∙ rw (t, length-flagged (d .ignore)) refl in
       fields-laid j f g h i
       ∙ ap (λ m. splice m 2064 ns) front
-      ∙ ap (λ n. splice (splice x 0 (d .table ++ flag)) n ns) (sym (zero-add (length (d .table ++ flag)) ∙ long))
+      ∙ ap (λ n. splice (splice x 0 (d .table ++ flag)) n ns) (sym (zero-add (length (d .table ++ flag)) ∙ length-front d t))
       ∙ splice-next x 0 (d .table ++ flag) ns
       ∙ splice-all x ((d .table ++ flag) ++ ns) (length-image d t (sized d s) ∙ sym l)
 
 -- ---- bytes of another length are no image
 
-sized-in : (b : List ℕ) → Sized sizes (partsOf (deviceIn b))
-unfolding partsOf ownOf deviceIn scalarsIn controllerIn
-sized-in b =
-    (refl, (refl, (refl, (length-numbers 64 b 64 64, (length-numbers 64 b 128 64, (length-numbers 32 b 192 64, (length-numbers 8 b 256 64, (length-numbers 8 b 320 64, (length-numbers 8 b 384 64, (refl, (length-numbers 64 b 576 192, tt)))))))))))
+sized-held : (b : List ℕ) → Sized sizes (partsOf (heldIn b))
+unfolding partsOf ownOf heldIn deviceIn scalarsIn controllerIn
+sized-held b =
+    (refl, (refl, (refl, (length-numbers 64 b 64 64, (length-numbers 64 b 128 64, (length-numbers 32 b 192 64, (length-numbers 8 b 256 64, (length-numbers 8 b 320 64, (length-numbers 8 b 384 64, (refl, (length-numbers 64 b 576 192, (length-numbers (heldBits (chipIn b)) b 768 64, tt))))))))))))
 
-table-in : (b : List ℕ) → length (deviceIn b .table) ≡ 2048
-unfolding deviceIn
-table-in b = length-part b 0 2048
+table-held : (b : List ℕ) → length (heldIn b .table) ≡ 2048
+unfolding heldIn deviceIn
+table-held b = length-part b 0 2048
 
 pub no-image : (b : List ℕ) → (length b ≡ 8720 → ⊥) → false ≡ isImage b
 unfolding isImage
-no-image b h = sym (alike-lengths (imageOf (deviceIn b)) b (λ e. h (sym e ∙ length-image (deviceIn b) (table-in b) (sized-in b))))
+no-image b h = sym (alike-lengths (imageOf (heldIn b)) b (λ e. h (sym e ∙ length-image (heldIn b) (table-held b) (sized-held b))))
 
--- an image is that of the device that stands in it
-pub image-is : (b : List ℕ) → isImage b ≡ true → imageOf (deviceIn b) ≡ b
+-- an image is that of the device that is held in it
+pub image-is : (b : List ℕ) → isImage b ≡ true → imageOf (heldIn b) ≡ b
 unfolding isImage
-image-is b h = alike-same (imageOf (deviceIn b)) b h
+image-is b h = alike-same (imageOf (heldIn b)) b h
+
+-- and in the old mode of the device that stands in it
+pub image-old : (b : List ℕ) → isImage b ≡ true → chipIn b ≡ false → imageOf (deviceIn b) ≡ b
+image-old b h e = ap imageOf (sym same) ∙ image-is b h
+  where
+    same : heldIn b ≡ deviceIn b
+    same = unfold heldIn deviceIn bitsOf in ap (λ (bits : ℕ). withPriorities (deviceIn b) (numbersIn bits b 768 64)) (ap heldBits e ∙ sym (ap (λ c. bitsIn c (PRIORITY 0)) e))
 
 pub image-long : (b : List ℕ) → isImage b ≡ true → length b ≡ 8720
-image-long b h = sym (ap length (image-is b h)) ∙ length-image (deviceIn b) (table-in b) (sized-in b)
+image-long b h = sym (ap length (image-is b h)) ∙ length-image (heldIn b) (table-held b) (sized-held b)
 
 -- ---- a device read
 
-pub device-got : (b : List ℕ) {scalars table busy majors taken pending : List ℕ} {k l m : Controller} → scalars ≡ scalarsIn scalarBits b 0 → table ≡ part b 0 2048
+-- numbers of 8 bits, cut to fewer
+cut-again : (bits : ℕ) → bits ≤ 8 → (b : List ℕ) (n k : ℕ) → map (λ (v : ℕ). v % 2 ^ bits) (numbersIn 8 b n k) ≡ numbersIn bits b n k
+unfolding numbersIn numberIn
+cut-again bits h b n zero = refl
+cut-again bits h b n (suc k) = ap₂ (λ x l. x ∷ l) (low-low 8 bits (number (part b (2064 + 8 * n) 8)) h) (cut-again bits h b (suc n) k)
+
+-- priorities are held as 8 bits each, of which those of the mode count
+pub priorities-got : (chip : Bool) (b : List ℕ) {held : List ℕ} → held ≡ numbersIn 8 b 768 64 → viewPriorities chip held ≡ numbersIn (bitsIn chip (PRIORITY 0)) b 768 64
+unfolding bitsOf
+priorities-got chip b e = ap (viewPriorities chip) e ∙ by chip
+  where
+    by : (chip : Bool) → map (λ (v : ℕ). v % 2 ^ cond chip 6 0) (numbersIn 8 b 768 64) ≡ numbersIn (cond chip 6 0) b 768 64
+    by true = cut-again 6 (omega arith) b 768 64
+    by false = cut-again 0 (omega arith) b 768 64
+
+pub device-got : (b : List ℕ) {scalars table busy majors taken pending priorities : List ℕ} {k l m : Controller} → scalars ≡ scalarsIn scalarBits b 0 → table ≡ part b 0 2048
     → busy ≡ numbersIn 64 b 64 64 → majors ≡ numbersIn 64 b 128 64 → taken ≡ numbersIn 64 b 576 192 → pending ≡ numbersIn 32 b 192 64
-    → k ≡ controllerIn b 0 → l ≡ controllerIn b 1 → m ≡ controllerIn b 2
+    → priorities ≡ numbersIn (bitsIn (chipIn b) (PRIORITY 0)) b 768 64 → k ≡ controllerIn b 0 → l ≡ controllerIn b 1 → m ≡ controllerIn b 2
     → _≡_ {A = Device} (record {
       scalars = scalars;
       table = table;
@@ -224,8 +275,10 @@ pub device-got : (b : List ℕ) {scalars table busy majors taken pending : List 
       majors = majors;
       taken = taken;
       pending = pending;
+      priorities = priorities;
       controllers = k ∷ l ∷ m ∷ [];
       ignore = eqb (getD b 2048 0) 1;
+      chip = chipIn b;
     }) (deviceIn b)
 unfolding deviceIn
-device-got b a c d e f g h i j = rw (a, c, d, e, f, g, h, i, j) refl
+device-got b a c d e f g p h i j = rw (a, c, d, e, f, g, p, h, i, j) refl

@@ -4,10 +4,12 @@ use mathlib.Core.List.{List, [], _∷_, _++_}
 use Prim.Native.Nat.{ℕ, zero, suc, _+_, _*_, _%_, _^_}
 use lib.Dec.{eqb}
 use lib.ListN.{getD, replicate}
+use Rattle.rules.specs.Act.{PRIORITY}
 use Rattle.rules.specs.Bytes.{bytes, number, part}
-use Rattle.rules.specs.Fields.{fieldsOf}
+use Rattle.rules.specs.Fields.{bitsIn, fieldsOf}
 use Rattle.rules.specs.Scalars.{scalarBits}
 use Rattle.rules.specs.State.{Controller, Device}
+use Rattle.rules.specs.With.{withPriorities}
 
 -- ---- a device laid down
 
@@ -16,13 +18,13 @@ unfoldable pub laid : List ℕ → List ℕ
 laid [] = []
 laid (v ∷ vs) = bytes 8 v ++ laid vs
 
--- byte 2048: 1 where masks are ignored; bytes 2049 to 2063: 0
-unfoldable pub settingBytes : Bool → List ℕ
-settingBytes b = cond b 1 0 ∷ replicate 15 0
+-- byte 2048: 1 where masks are ignored; byte 2049: 1 in the chip's mode; bytes 2050 to 2063: 0
+unfoldable pub settingBytes : Bool → Bool → List ℕ
+settingBytes ignore chip = cond ignore 1 0 ∷ cond chip 1 0 ∷ replicate 14 0
 
--- the table; the setting; the fields by their numbers, and 64 numbers that name none yet
+-- the table; the settings; the fields by their numbers
 unfoldable pub imageOf : Device → List ℕ
-imageOf d = (d .table ++ settingBytes (d .ignore)) ++ laid (fieldsOf d ++ replicate 64 0)
+imageOf d = (d .table ++ settingBytes (d .ignore) (d .chip)) ++ laid (fieldsOf d)
 
 -- ---- the device that stands in an image
 
@@ -48,6 +50,9 @@ controllerIn b c = record {
   config = numberIn 16 b (19 + 4 * c);
 }
 
+abbrev pub chipIn : List ℕ → Bool
+chipIn b = eqb (getD b 2049 0) 1
+
 unfoldable pub deviceIn : List ℕ → Device
 deviceIn b = record {
   scalars = scalarsIn scalarBits b 0;
@@ -56,8 +61,10 @@ deviceIn b = record {
   majors = numbersIn 64 b 128 64;
   taken = numbersIn 64 b 576 192;
   pending = numbersIn 32 b 192 64;
+  priorities = numbersIn (bitsIn (chipIn b) (PRIORITY 0)) b 768 64;
   controllers = controllerIn b 0 ∷ controllerIn b 1 ∷ controllerIn b 2 ∷ [];
   ignore = eqb (getD b 2048 0) 1;
+  chip = chipIn b;
 }
 
 -- ---- images and other bytes
@@ -68,6 +75,14 @@ alike [] (y ∷ ys) = false
 alike (x ∷ xs) [] = false
 alike (x ∷ xs) (y ∷ ys) = cond (eqb x y) (alike xs ys) false
 
--- the bytes are those of the device that stands in them: the length is 8,720, what must be 0 is, and no field is too wide
+-- how many bits a priority may have in an image of this mode: 0 to 255 may stand there, of which the low six bits count; or 0 alone
+abbrev pub heldBits : Bool → ℕ
+heldBits chip = cond chip 8 0
+
+-- the device in the bytes, with its priorities as they are held there
+unfoldable pub heldIn : List ℕ → Device
+heldIn b = withPriorities (deviceIn b) (numbersIn (heldBits (chipIn b)) b 768 64)
+
+-- the bytes are those of the device that is held in them: the length is 8,720, what must be 0 is, no setting is above 1, and no field is too wide
 unfoldable pub isImage : List ℕ → Bool
-isImage b = alike (imageOf (deviceIn b)) b
+isImage b = alike (imageOf (heldIn b)) b

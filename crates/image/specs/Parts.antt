@@ -17,4 +17,4 @@ levelsOf d =
     controller (d .controllers) 0 .levels ∷ controller (d .controllers) 1 .levels ∷ controller (d .controllers) 2 .levels ∷ replicate 128 0 ∷ []
 
 abbrev pub takenOf : Device → List (List ℕ)
-takenOf d = d .taken ∷ replicate 64 0 ∷ []
+takenOf d = d .taken ∷ d .priorities ∷ []

@@ -2,14 +2,15 @@
 use rules::Controller;
 use rules::Device;
 ghost use mathlib.Core.Bool.{cond};
+ghost use mathlib.Core.List.{map};
 ghost use mathlib.Core.Path.{_≡_};
-ghost use Prim.Native.Nat.{_+_, _*_, _≤_, _<_, max};
+ghost use Prim.Native.Nat.{ℕ, _+_, _*_, _%_, _≤_, _<_, max};
 ghost use lib.ListN.{length, getD, replicate};
 ghost use Rattle.rules.specs.Bytes.{splice, part};
 ghost use Rattle.rules.specs.Fields.{joined, ownOf};
 ghost use Rattle.rules.specs.View.{viewController, view};
 ghost use Rattle.image.specs.Fits.{fitsIn, settingFits, scalarsFit, ownBits};
-ghost use Rattle.image.specs.Image.{laid, settingBytes, imageOf, numberIn, numbersIn, controllerIn, deviceIn, alike, isImage};
+ghost use Rattle.image.specs.Image.{laid, settingBytes, imageOf, numberIn, numbersIn, controllerIn, deviceIn, heldBits, alike, isImage};
 ghost use Rattle.image.specs.Parts.{scalarsOf, channelsOf, levelsOf, takenOf};
 
 // How long an image is.
@@ -64,6 +65,22 @@ fn put_bytes(image: &mut [u8], from: usize, v: &[u8])
     }
 }
 
+// The low six bits of each.
+fn put_sixes(image: &mut [u8], from: usize, v: &[u8])
+    requires { ⌜ 2064 + 8 * (from + length (now v)) ≤ length (now image) ⌝ }
+    ensures { λ _. ⌜ now (image .exit) ≡ splice (now (image .entry)) (2064 + 8 * from) (laid (map (λ (x : ℕ). x % 64) (now (v .entry)))) ⌝ }
+{
+    let mut left = v.len();
+    while 0 < left {
+        left -= 1;
+        words::put8(
+            image,
+            2064 + 8 * (from + left),
+            (byte_of(v, left) % 64) as u64,
+        );
+    }
+}
+
 // The bytes of `table` laid over the first of the image.
 fn put_table(image: &mut [u8], table: &[u8])
     requires { ⌜ length (now table) ≤ length (now image) ⌝ }
@@ -76,19 +93,27 @@ fn put_table(image: &mut [u8], table: &[u8])
     }
 }
 
-// 1 in the highest of 8 bytes, or 0.
-fn flag_of(ignore_masks: bool) -> u64
-    ensures { λ r. ⌜ r ≡ cond «ignore_masks» 0x0100000000000000 0 ⌝ }
+// 1 in the highest of 8 bytes where masks are ignored, 1 in the next in the chip's mode; else 0.
+fn flags_of(ignore_masks: bool, chip: bool) -> u64
+    ensures { λ r. ⌜ r ≡ cond «ignore_masks» 0x0100000000000000 0 + cond chip 0x0001000000000000 0 ⌝ }
 {
-    if ignore_masks { 0x0100000000000000 } else { 0 }
+    if ignore_masks {
+        if chip {
+            0x0101000000000000
+        } else {
+            0x0100000000000000
+        }
+    } else {
+        if chip { 0x0001000000000000 } else { 0 }
+    }
 }
 
 // Bytes 2048 to 2063.
-fn put_flag(image: &mut [u8], ignore_masks: bool)
+fn put_flags(image: &mut [u8], ignore_masks: bool, chip: bool)
     requires { ⌜ 2064 ≤ length (now image) ⌝ }
-    ensures { λ _. ⌜ now (image .exit) ≡ splice (now (image .entry)) 2048 (settingBytes «ignore_masks») ⌝ }
+    ensures { λ _. ⌜ now (image .exit) ≡ splice (now (image .entry)) 2048 (settingBytes «ignore_masks» chip) ⌝ }
 {
-    words::put8(image, 2048, flag_of(ignore_masks));
+    words::put8(image, 2048, flags_of(ignore_masks, chip));
     words::put8(image, 2056, 0);
 }
 
@@ -232,15 +257,28 @@ fn put_channels(image: &mut [u8], d: Device)
     put_counts(image, 192, &pending);
 }
 
-// Fields 576 to 767: how often each vector was taken; and 64 numbers that name no field.
+// Fields 768 to 831: of priorities the bits that the mode has, six or none.
+fn put_priorities(image: &mut [u8], d: Device)
+    requires { ⌜ 8720 ≤ length (now image) ⌝ }
+    ensures { λ _. ⌜ now (image .exit) ≡ splice (now (image .entry)) 8208 (laid (view d .priorities)) ⌝ }
+{
+    if d.chip {
+        let priorities = d.priorities;
+        put_sixes(image, 768, &priorities);
+    } else {
+        let none = [0u64; 64];
+        put_wides(image, 768, &none);
+    }
+}
+
+// Fields 576 to 831: how often each vector was taken; and priorities.
 fn put_taken(image: &mut [u8], d: Device)
     requires { ⌜ 8720 ≤ length (now image) ⌝ }
     ensures { λ _. ⌜ now (image .exit) ≡ splice (now (image .entry)) 6672 (laid (joined (takenOf (view d)))) ⌝ }
 {
     let taken = d.taken;
-    let none = [0u64; 64];
     put_wides(image, 576, &taken);
-    put_wides(image, 768, &none);
+    put_priorities(image, d);
 }
 
 // The whole image of a device.
@@ -250,7 +288,7 @@ pub fn put_device(image: &mut [u8], d: Device)
 {
     let table = d.table;
     put_table(image, &table);
-    put_flag(image, d.ignore_masks);
+    put_flags(image, d.ignore_masks, d.chip);
     put_scalars(image, d);
     put_own(image, d);
     put_channels(image, d);
@@ -273,7 +311,7 @@ fn get_controller(image: &[u8], c: usize) -> Controller
     }
 }
 
-// The device that stands in an image.
+// The device that stands in an image. Its priorities are held as they are there.
 pub fn get_device(image: &[u8]) -> Device
     requires { ⌜ length (now image) ≡ 8720 ⌝ }
     ensures { λ r. ⌜ view r ≡ deviceIn (now (image .entry)) ⌝ }
@@ -291,6 +329,8 @@ pub fn get_device(image: &[u8]) -> Device
     get_wides(image, 576, &mut taken);
     let mut pending = [0u32; 64];
     get_counts(image, 192, &mut pending);
+    let mut priorities = [0u8; 64];
+    get_bytes(image, 768, &mut priorities);
     let a = get_controller(image, 0);
     let b = get_controller(image, 1);
     let c = get_controller(image, 2);
@@ -301,8 +341,10 @@ pub fn get_device(image: &[u8]) -> Device
         majors,
         taken,
         pending,
+        priorities,
         controllers: [a, b, c],
         ignore_masks: image[2048] == 1,
+        chip: image[2049] == 1,
     }
 }
 
@@ -348,8 +390,8 @@ fn setting_fits(image: &[u8]) -> bool
     requires { ⌜ length (now image) ≡ 8720 ⌝ }
     ensures { λ r. ⌜ r ≡ settingFits (now (image .entry)) ⌝ }
 {
-    let flag = flag_of(image[2048] == 1);
-    (words::get8(image, 2048) == flag) & (words::get8(image, 2056) == 0)
+    let flags = flags_of(image[2048] == 1, image[2049] == 1);
+    (words::get8(image, 2048) == flags) & (words::get8(image, 2056) == 0)
 }
 
 // Fields 0 to 15: the numbers that stand alone are those of their types, and 0 is behind them.
@@ -375,7 +417,14 @@ fn own_fit(image: &[u8]) -> bool
         & fits(image, 28, 36, 0)
 }
 
-// The bytes are a device's. Of the rows behind field 63 four are narrow: pending counts, level bytes, and twice 0.
+// "Each 0..255", "of which the low six bits count"; and 0 in the old mode.
+fn held_bits(chip: bool) -> usize
+    ensures { λ r. ⌜ r ≡ heldBits chip ⌝ }
+{
+    if chip { 8 } else { 0 }
+}
+
+// The bytes are a device's. Of the rows behind field 63 four are narrow: pending counts, level bytes, 0, and priorities.
 pub fn is_image(image: &[u8]) -> bool
     ensures { λ r. ⌜ r ≡ isImage (now (image .entry)) ⌝ }
 {
@@ -388,5 +437,5 @@ pub fn is_image(image: &[u8]) -> bool
         & fits(image, 192, 64, 32)
         & fits(image, 256, 192, 8)
         & fits(image, 448, 128, 0)
-        & fits(image, 768, 64, 0)
+        & fits(image, 768, 64, held_bits(image[2049] == 1))
 }

@@ -10,7 +10,7 @@ use lib.Dec.{eqb, leb, ltb}
 use lib.ListN.{length, take, drop, replicate, length-append, length-take, length-drop, take-append-drop}
 use lib.Seq.{take-at, drop-at, take-take}
 use borrow.Author.Tests.{leb-true, ltb-true}
-use Rattle.rules.specs.Act.{Space, window, table, Field, SCALAR, MASKS, FORCED, LINES, CONFIG, BUSY, MAJORS, PENDING, SOURCE, TAKEN}
+use Rattle.rules.specs.Act.{Space, window, table, Field, SCALAR, MASKS, FORCED, LINES, CONFIG, BUSY, MAJORS, PENDING, SOURCE, TAKEN, PRIORITY}
 use Rattle.rules.specs.Fields.{fieldAt, withSome}
 use Rattle.rules.specs.Bytes.{bytes, part}
 use Rattle.rules.specs.Calls.{worldOf}
@@ -56,6 +56,7 @@ table-apart (some (MAJORS ch)) v e = refl
 table-apart (some (PENDING ch)) v e = refl
 table-apart (some (SOURCE c s)) v e = refl
 table-apart (some (TAKEN i)) v e = refl
+table-apart (some (PRIORITY ch)) v e = refl
 
 -- as long as it was
 pub record SameSizes (m₀ m : Machine) : Type 0 where
@@ -138,7 +139,7 @@ module _ (base : ℕ) where
         ap (asIn d) (store-line sp a n v m s h) ∙ asIn-stored base d sp a n v m ∙ ap (stored base sp a n v) e ∙ sym (asIn-stored base d sp a n v m′)
     line-undone (stoodIn n v) m m′ h s e =
         let f : asIn d (undoLine base (lineOf (stoodIn n v)) m) ≡ asIn d m′ = (unfold undoLine undoAs lineOf line in e) in
-        f ∙ ap (λ (t : List ℕ). record { mem = m′ .mem; dev = withTable d t }) (sym (table-apart (fieldAt n) v (m′ .dev)))
+        f ∙ ap (λ (t : List ℕ). record { mem = m′ .mem; dev = withTable d t }) (sym (table-apart (fieldAt (m′ .dev .chip) n) v (m′ .dev)))
 
     lines-sizes : (m : Machine) → SameSizes m₀ m → (log : List Rec) → AllSound base m₀ log → (rest : List ℕ) → SameSizes m₀ (undoLines base (length log) (linesOf log ++ rest) m)
     unfolding undoLines linesOf AllSound

@@ -10,7 +10,7 @@ use Rattle.memory.specs.declared.Place.the-variants.{At, Outside}
 
 -- a machine with this window; which device it has makes no difference to a place in memory
 unfoldable pub holding : List ℕ → Machine
-holding w = record { mem = w; dev = fresh false }
+holding w = record { mem = w; dev = fresh false false }
 
 -- n bytes from address a on: their index in the window, if they are all there
 unfoldable pub placeOf : ℕ → List ℕ → ℕ → ℕ → Place

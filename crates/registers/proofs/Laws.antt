@@ -1,48 +1,53 @@
 -- The calls, by cases: what is wrong with the arguments, in number order, and what is done. Assumes nothing.
 use mathlib.Core.Bool.{Bool, true, false, not, _||_}
 use mathlib.Core.List.{List, []}
-use mathlib.Core.Option.{Option}
+use mathlib.Core.Option.{Option, some}
 use mathlib.Core.Path.{_≡_, refl, sym, ap, _∙_}
 use Prim.Native.Nat.{ℕ, suc, _+_, _-_, _%_, _^_, _≤_, _<_}
+use native.Mathlib.Nat.{mod-mod}
 use native.Mathlib.Omega.{arith}
-use borrow.Author.Tests.{le-leb, leb-false, ltb-false, ne-eqb, lt-ltb}
-use lib.Dec.{eqb, ltb}
+use borrow.Author.Tests.{le-leb, lt-leb, leb-false, ltb-false, ne-eqb, lt-ltb}
+use lib.Dec.{eqb, leb, ltb}
 use lib.ListN.{length, getD, set, take, drop}
 use lib.Seq.{set-getD, set-set}
-use Rattle.rules.specs.Act.{Act, PENDING}
-use Rattle.rules.specs.Calls.{Asked, write, actOf, addPending, badSize, badJournal, badSum, isNone, orNothing, check, wrong, barred, stops, wrongRead, levelled, Told, told, toldAfter, stagingAfter, toldReading, refusalNumber, worldOf, unlessStopped, after, readUnless, afterRead}
+use Rattle.rules.specs.Act.{Act, PENDING, PRIORITY, put}
+use Rattle.rules.specs.Calls.{Asked, write, actOf, addPending, badSize, badJournal, badSum, isNone, orNothing, check, wrong, barred, stops, wrongRead, levelled, Told, told, toldAfter, stagingAfter, toldReading, refusalNumber, worldOf, unlessStopped, after, readUnless, afterRead, Spared}
 use Rattle.rules.specs.Carry.{Out, ok, changed, go, leave, perform, Lent, lending}
-use Rattle.rules.specs.Fields.{bitsOf, fieldsOf}
+use Rattle.rules.specs.Fields.{bitsOf, bitsIn, partsOf, fieldsOf}
 use Rattle.rules.specs.Registers.{within, inBlocks, inTable, blockOf, offsetOf, dmaRead, dmaWrite, readIn, readAt, writeIn, writeAt, controllerWrite, pastTable, pastWord}
 use Rattle.rules.specs.State.{Device}
+use Rattle.rules.specs.View.{viewPriorities}
 use Rattle.rules.specs.declared.Heard.{Heard}
 use Rattle.rules.specs.declared.Heard.the-variants as Heard
 use Rattle.rules.specs.declared.Reading.the-variants as Reading
 use Rattle.rules.specs.declared.Refusal.{Refusal}
 use Rattle.rules.specs.declared.Refusal.the-variants as Refusal
+use Rattle.rules.specs.declared.Verdict.{Verdict}
 use Rattle.rules.specs.declared.Verdict.the-variants as Verdict
-use Rattle.rules.proofs.BoolLaws.{and-left, and-both}
+use Rattle.rules.proofs.BoolLaws.{and-left, and-right, and-both}
 use Rattle.rules.proofs.CallLaws.{wrong-alone}
 use Rattle.rules.proofs.Each.{Proper}
+use Rattle.rules.proofs.FieldLaws.{sized}
 use Rattle.rules.proofs.Told.{refusal-suc}
+use Rattle.rules.proofs.ViewLaws.{map-set, priority-viewed}
 use Rattle.act.specs.Does.{Answers, Does}
-use Rattle.act.specs.Parts.{Arrays, tabled, counted, taking, whole, toldDone}
+use Rattle.act.specs.Parts.{Arrays, tabled, counted, taking, ordered, whole, SameLevels, toldDone}
 use Rattle.act.specs.Worlds.{on, cameTo}
 use Rattle.act.specs.declared.Core.{Core}
 use Rattle.act.specs.declared.Done.{Done}
 use Rattle.act.specs.declared.Step.the-variants.{Going}
 use Rattle.act.specs.declared.Walk.the-variants.{On}
-use Rattle.act.proofs.DoesLaws.{does-change}
-use Rattle.closing.specs.Closes.{noting, addAll, addEnd, Notes, Part, coreIn}
+use Rattle.act.proofs.DoesLaws.{does-cut, does-change}
+use Rattle.closing.specs.Closes.{noting, addAll, addEnd, Notes, NotesOne, Part, coreIn, orderIn}
 use Rattle.closing.specs.declared.Noted.{Noted}
 use Rattle.closing.specs.declared.Noted.the-variants.{At, Full}
-use Rattle.closing.proofs.Parts.{same-pending}
+use Rattle.closing.proofs.Parts.{same-part, same-busy, same-majors, same-pending, same-taken, every-noted}
 use Rattle.acting.specs.Ending.{begunAt, doneBy, clearedFrom, Settled, Settles}
 use Rattle.acting.specs.declared.Reached.{Reached}
 use Rattle.acting.proofs.Laws.{told-made, told-cleared, does-goes, counts-noted, taken-noted}
 use Rattle.intc.specs.Writes.{InWord}
-use Rattle.masks.proofs.Ranges.{within-true}
-use Rattle.dma_read.specs.Access.{Fair}
+use Rattle.masks.proofs.Ranges.{within-true, never}
+use Rattle.dma_read.specs.Access.{Fair, isPriority}
 use Rattle.registers.specs.Asked.{pastEnd, pastPart, answered}
 
 -- ---- tests
@@ -76,6 +81,10 @@ sum-fits standing count e f = omega (arith, ltb-false (2 ^ 32 - 1) (standing + c
 -- what stood there, put back
 pub put-back : (l : List ℕ) (i v : ℕ) → set (set l i v) i (getD l i 0) ≡ l
 put-back l i v = set-set l i v (getD l i 0) ∙ set-getD l i 0
+
+-- an accepted call has no refusal's promise to keep
+pub accepted-spares : {v : Verdict} {held held′ : List ℕ} → v ≡ Verdict.Accepted → Spared v held held′
+accepted-spares e n f = absurd (let z : _≡_ {A = ℕ} 0 1 = cc in omega arith)
 
 -- ---- refusal 4, by the offset
 
@@ -253,30 +262,113 @@ pub pending-does : (k : Core) (x : Arrays) (q : List ℕ) (ch count : ℕ) → g
 unfolding addPending bitsOf
 pending-does k x q ch count h = does-change (whole k (counted x q)) (PENDING ch) (λ old. old + count) h
 
+-- an act without a store, which came from the arrays y to y′, and its last records
+module _ (k : Core) (s : Reached) (y y′ : Arrays) (used : ℕ) (j : List ℕ) (act : Act (Unit {0})) (p : Proper (whole k y)) (fits : used ≤ length j)
+    (settles : Settles k (Going (record { scalars = k .scalars; at = used })) s) (does : Does act (whole k y) (whole k y′)) {n : Noted} {j₁ : List ℕ}
+    (noted : SameLevels k (s .core) → noting n j₁ ≡ addEnd used (addAll (changed 0 (fieldsOf (whole k y)) (fieldsOf (whole (s .core) y′))) (noting (begunAt (s .walk)) j)))
+    (r : Done) (is : r ≡ doneBy k s n used) (base : ℕ) (w staging : List ℕ)
+  where
+    abbrev lends : Lent
+    lends = lending (length staging)
+
+    went : Settled k y′ (Going (record { scalars = k .scalars; at = used })) s base lends act (whole k y) w j w j used
+    went = stored-settled base lends act (whole k y) k y′ w j used s p fits settles does
+
+    act-made : r .verdict ≡ Verdict.Accepted
+        → toldDone Heard.Nothing r y′ w staging j₁ ≡ toldAfter staging used (perform base lends (levelled act) (worldOf (whole k y) w j used))
+    act-made v = told-made k y y′ Heard.Nothing used w j w j j₁ fits (went .since) base lends (levelled act) s n (went .later) (went .left) (noted (went .levels)) r is staging v
+
+    -- the arrays are put back
+    act-unmade : {why : Refusal} {j₂ : List ℕ} → r .verdict ≡ Verdict.Refused why → j₂ ≡ clearedFrom used j₁
+        → toldDone Heard.Nothing r y w staging j₂ ≡ toldAfter staging used (perform base lends (levelled act) (worldOf (whole k y) w j used))
+    act-unmade v c = told-cleared k y y′ Heard.Nothing used w j w j j₁ fits (went .since) base lends (levelled act) s n (went .later) (went .left) (noted (went .levels)) r is staging v c
+
+-- pending counts
 module _ (k : Core) (s : Reached) (x : Arrays) (q q′ : List ℕ) (used : ℕ) (j : List ℕ) (act : Act (Unit {0})) (p : Proper (whole k (counted x q))) (fits : used ≤ length j)
     (settles : Settles k (Going (record { scalars = k .scalars; at = used })) s) (does : Does act (whole k (counted x q)) (whole k (counted x q′)))
     {b t₁ t₂ n : Noted} {j₁ j₂ j₃ : List ℕ} (begins : b ≡ begunAt (s .walk)) (core : Notes 0 (coreIn k) (coreIn (s .core)) b t₁ j j₁) (counts : Part 64 192 q q′ t₁ t₂ j₁ j₂)
     (end : noting n j₃ ≡ addEnd used (noting t₂ j₂)) (r : Done) (is : r ≡ doneBy k s n used) (base : ℕ) (w staging : List ℕ)
   where
-    abbrev lends : Lent
-    lends = lending (length staging)
-
-    went : Settled k (counted x q′) (Going (record { scalars = k .scalars; at = used })) s base lends act (whole k (counted x q)) w j w j used
-    went = stored-settled base lends act (whole k (counted x q)) k (counted x q′) w j used s p fits settles does
-
-    noted : noting n j₃ ≡ addEnd used (addAll (changed 0 (fieldsOf (whole k (counted x q))) (fieldsOf (whole (s .core) (counted x q′)))) (noting (begunAt (s .walk)) j))
-    noted = counts-noted k s (counted x q) p q′ used j begins (went .levels) core counts end
+    counts-in : SameLevels k (s .core) → noting n j₃ ≡ addEnd used (addAll (changed 0 (fieldsOf (whole k (counted x q))) (fieldsOf (whole (s .core) (counted x q′)))) (noting (begunAt (s .walk)) j))
+    counts-in same-sources = counts-noted k s (counted x q) p q′ used j begins same-sources core counts end
 
     pub counts-made : r .verdict ≡ Verdict.Accepted
-        → toldDone Heard.Nothing r (counted x q′) w staging j₃ ≡ toldAfter staging used (perform base lends (levelled act) (worldOf (whole k (counted x q)) w j used))
-    counts-made v = told-made k (counted x q) (counted x q′) Heard.Nothing used w j w j j₃ fits (went .since) base lends (levelled act) s n (went .later) (went .left) noted r is staging v
+        → toldDone Heard.Nothing r (counted x q′) w staging j₃ ≡ toldAfter staging used (perform base (lending (length staging)) (levelled act) (worldOf (whole k (counted x q)) w j used))
+    counts-made v = act-made k s (counted x q) (counted x q′) used j act p fits settles does counts-in r is base w staging v
 
-    -- the counts are put back
     pub counts-unmade : {why : Refusal} {q₄ j₄ : List ℕ} → r .verdict ≡ Verdict.Refused why → q₄ ≡ q → j₄ ≡ clearedFrom used j₃
-        → toldDone Heard.Nothing r (counted x q₄) w staging j₄ ≡ toldAfter staging used (perform base lends (levelled act) (worldOf (whole k (counted x q)) w j used))
-    counts-unmade v e c =
-        rw e
-        (told-cleared k (counted x q) (counted x q′) Heard.Nothing used w j w j j₃ fits (went .since) base lends (levelled act) s n (went .later) (went .left) noted r is staging v c)
+        → toldDone Heard.Nothing r (counted x q₄) w staging j₄ ≡ toldAfter staging used (perform base (lending (length staging)) (levelled act) (worldOf (whole k (counted x q)) w j used))
+    counts-unmade v e c = rw e (act-unmade k s (counted x q) (counted x q′) used j act p fits settles does counts-in r is base w staging v c)
+
+-- ---- priorities
+
+-- such an access has a register, and does not run past the table
+module _ (off size : ℕ) (e : isPriority off size ≡ true) where
+  pub priority-there : (0x100 ≤ off) × (off ≤ 0x13F)
+  unfolding isPriority
+  priority-there = within-true 0x100 0x13F off (and-right (eqb size 1) (within 0x100 0x13F off) e)
+
+  no-table : inTable off ≡ false
+  unfolding inTable within
+  no-table = rw (lt-leb 0x1000 off (omega (arith, priority-there)))
+
+  no-command : within 0x18 0x1F off ≡ false
+  unfolding within
+  no-command = rw (lt-leb off 0x1F (omega (arith, priority-there)), never (leb 0x18 off))
+
+  pub priority-write : (v : ℕ) → dmaWrite off size v ≡ some (put (PRIORITY (off - 0x100)) v)
+  unfolding dmaWrite isPriority
+  priority-write v = rw (no-table, no-command, never (eqb size 1), e)
+
+  pub priority-inside : pastEnd off size ≡ false
+  unfolding pastEnd
+  priority-inside = rw no-table
+
+-- of what is held, the bits of the mode count: they stay when they are cut again
+module _ (chip : Bool) (l : List ℕ) (ch v : ℕ) where
+  abbrev cut : ℕ
+  cut = v % 2 ^ bitsIn chip (PRIORITY 0)
+
+  priority-set : viewPriorities chip (set l ch cut) ≡ set (viewPriorities chip l) ch cut
+  priority-set = map-set (λ (x : ℕ). x % 2 ^ bitsIn chip (PRIORITY 0)) l ch cut ∙ ap (set (viewPriorities chip l) ch) (mod-mod v (2 ^ bitsIn chip (PRIORITY 0)))
+
+  priority-does : (k : Core) (x : Arrays) → Does (put (PRIORITY ch) v) (whole k (ordered x l chip)) (whole k (ordered x (set l ch cut) chip))
+  unfolding bitsOf
+  priority-does k x = rw priority-set (does-cut (whole k (ordered x l chip)) (PRIORITY ch) v)
+
+module _ (k : Core) (s : Reached) (x : Arrays) (chip : Bool) (l : List ℕ) (ch v used : ℕ) (j : List ℕ) (p : Proper (whole k (ordered x l chip))) (fits : used ≤ length j)
+    (settles : Settles k (Going (record { scalars = k .scalars; at = used })) s) {b t₁ t₂ n : Noted} {j₁ j₂ j₃ : List ℕ} {old new : ℕ} (begins : b ≡ begunAt (s .walk))
+    (core : Notes 0 (coreIn k) (coreIn (s .core)) b t₁ j j₁) (was : old ≡ getD l ch 0 % 2 ^ bitsIn chip (PRIORITY 0)) (is-now : new ≡ v % 2 ^ bitsIn chip (PRIORITY 0))
+    (order : NotesOne 64 768 ch old new t₁ t₂ j₁ j₂) (end : noting n j₃ ≡ addEnd used (noting t₂ j₂)) (r : Done) (is : r ≡ doneBy k s n used) (base : ℕ) (w staging : List ℕ)
+  where
+    abbrev y : Arrays
+    y = ordered x l chip
+
+    abbrev y′ : Arrays
+    y′ = ordered x (set l ch (v % 2 ^ bitsIn chip (PRIORITY 0))) chip
+
+    long : length (viewPriorities chip l) ≡ 64
+    unfolding partsOf
+    long = sized (whole k y) (p .sound) .1 .1 .1 .1 .1 .1 .1 .1 .1 .1 .1 .0
+
+    one-noted : Notes 768 (orderIn y) (orderIn y′) t₁ t₂ j₁ j₂
+    one-noted = rw (priority-set chip l ch v, ← is-now) (order (viewPriorities chip l) long (priority-viewed chip l ch ∙ sym was) .noted)
+
+    noted : SameLevels k (s .core) → noting n j₃ ≡ addEnd used (addAll (changed 0 (fieldsOf (whole k y)) (fieldsOf (whole (s .core) y′))) (noting (begunAt (s .walk)) j))
+    noted same-sources =
+        end
+        ∙ ap (addEnd used)
+        (every-noted k (s .core) y y′ b j core (same-busy k y p t₁ j₁) (same-majors k y p t₁ j₁) (same-pending k y p t₁ j₁) (same-part k (s .core) y p same-sources t₁ j₁) (same-taken k y p t₁ j₁)
+        one-noted
+        ∙ ap (λ (z : Noted). addAll (changed 0 (fieldsOf (whole k y)) (fieldsOf (whole (s .core) y′))) (noting z j)) begins)
+
+    pub priority-made : r .verdict ≡ Verdict.Accepted
+        → toldDone Heard.Nothing r (ordered x (set l ch new) chip) w staging j₃ ≡ toldAfter staging used (perform base (lending (length staging)) (levelled (put (PRIORITY ch) v)) (worldOf (whole k y) w j used))
+    priority-made e = rw is-now (act-made k s y y′ used j (put (PRIORITY ch) v) p fits settles (priority-does chip l ch v k x) noted r is base w staging e)
+
+    pub priority-unmade : {why : Refusal} {l₄ j₄ : List ℕ} → r .verdict ≡ Verdict.Refused why → l₄ ≡ l → j₄ ≡ clearedFrom used j₃
+        → toldDone Heard.Nothing r (ordered x l₄ chip) w staging j₄ ≡ toldAfter staging used (perform base (lending (length staging)) (levelled (put (PRIORITY ch) v)) (worldOf (whole k y) w j used))
+    priority-unmade e f c = rw f (act-unmade k s y y′ used j (put (PRIORITY ch) v) p fits settles (priority-does chip l ch v k x) noted r is base w staging e c)
 
 -- ---- acknowledge
 

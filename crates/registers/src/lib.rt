@@ -19,16 +19,20 @@ use rules::Reading;
 use rules::Refusal;
 use rules::Verdict;
 ghost use mathlib.Core.Bool.{true, false};
+ghost use mathlib.Core.Option.{some};
 ghost use mathlib.Core.Path.{_≡_};
-ghost use Prim.Native.Nat.{suc, _≤_, _<_};
+ghost use Prim.Native.Nat.{suc, _%_, _^_, _≤_, _<_};
 ghost use lib.ListN.{length};
 ghost use Rattle.rules.specs.declared.Heard.the-variants as Heard;
+ghost use Rattle.rules.specs.Act.{put, PRIORITY};
+ghost use Rattle.rules.specs.Fields.{bitsIn};
 ghost use Rattle.rules.specs.View.{view};
-ghost use Rattle.rules.specs.Calls.{badSize, isNone, check, toldReading, readUnless, afterRead, write as writeCall, inputs as inputsCall, pending as pendingCall, ack};
+ghost use Rattle.rules.specs.Calls.{badSize, isNone, check, toldReading, readUnless, afterRead, Spared, write as writeCall, inputs as inputsCall, pending as pendingCall, ack};
 ghost use Rattle.rules.specs.Registers.{inBlocks, blockOf, dmaRead, readIn, dmaWrite, controllerWrite};
 ghost use Rattle.act.specs.Lent.{_⇒_};
 ghost use Rattle.intc.specs.Cells.{reads};
-ghost use Rattle.act.specs.Parts.{Arrays, tabled, counted, taking, Calls};
+ghost use Rattle.act.specs.Parts.{Arrays, tabled, counted, taking, ordered, Calls};
+ghost use Rattle.dma_read.specs.Access.{isPriority};
 ghost use Rattle.registers.specs.Asked.{pastEnd, pastPart, Writes, Stores, Made, MadeHeard};
 
 // ---- addresses
@@ -121,20 +125,89 @@ pub fn read(d: Device, address: u32, size: u32) -> Reading
 
 // ---- write
 
-// A DMA register or the table. After a refusal the table is as it was.
+// "Priorities are the low six bits of the bytes at DMA offsets 0x100 to 0x13F."
+fn is_priority(off: u32, size: u32) -> bool
+    ensures { λ r. ⌜ r ≡ isPriority off size ⌝ }
+{
+    if size != 1 {
+        return false;
+    }
+    masks::within(0x100, 0x13F, off)
+}
+
+// The bits that a priority has in the mode: six, of a byte "whose upper two bits are not kept"; in the old mode none.
+fn kept(chip: bool, value: u32) -> u8
+    ensures { λ r. ⌜ r ≡ value % 2 ^ bitsIn chip (PRIORITY 0) ⌝ }
+{
+    if !chip {
+        return 0;
+    }
+    (value % 64) as u8
+}
+
+// A byte as a word.
+fn wide(x: u8) -> u32
+    ensures { λ r. ⌜ r ≡ x ⌝ }
+{
+    x as u32
+}
+
+// A priority, one of the "six-bit fields 768 + channel". No other can have changed, so one is kept and one is noted. After a refusal the byte is as it
+// was, with those bits of it that count for nothing.
+fn write_priority(
+    k: Core,
+    channel: u32,
+    value: u32,
+    chip: bool,
+    priorities: &mut [u8; 64],
+    journal: &mut [u8],
+    used: usize,
+) -> Done
+    requires { ⌜ channel < 64 ⌝ }
+    ensures { λ r. ⌜ ((x : Arrays) → (Writes (some (put (PRIORITY channel) value)) false k r (ordered x (now (priorities .entry)) chip) (ordered x (now (priorities .exit)) chip) ⇒ journal) used) × Spared (r .verdict) (now (priorities .entry)) (now (priorities .exit)) ⌝ }
+{
+    if asking::bad_journal(journal.len(), used) {
+        return refused(k, Refusal::Journal, used);
+    }
+    let before = priorities[channel as usize];
+    let old = kept(chip, wide(before));
+    let after = kept(chip, value);
+    priorities[channel as usize] = after;
+    let scalars = k.scalars;
+    let s = acting::settle(k, Step::Going(Flow { scalars, at: used }));
+    let core = s.core;
+    let walk = s.walk;
+    let numbers = closing::note_core(acting::begun(walk), k, core, journal);
+    let order = closing::note_priority(numbers, channel, old, after, journal);
+    let r = acting::done(k, s, closing::note_end(order, used, journal), used);
+    let verdict = r.verdict;
+    let Verdict::Accepted = verdict else {
+        priorities[channel as usize] = before;
+        acting::clear(journal, used);
+        return r;
+    };
+    r
+}
+
+// A DMA register or the table. After a refusal table and priorities are as they were.
 fn write_dma(
     k: Core,
     off: u32,
     size: u32,
     value: u32,
+    chip: bool,
     table: &mut [u8; 2048],
     pending: &[u32; 64],
+    priorities: &mut [u8; 64],
     journal: &mut [u8],
     used: usize,
 ) -> Done
     requires { ⌜ (off < 0x4000) × (badSize size ≡ false) ⌝ }
-    ensures { λ r. ⌜ ((x : Arrays) → (Writes (dmaWrite off size value) (pastEnd off size) k r (tabled (counted x (now (pending .entry))) (now (table .entry))) (tabled (counted x (now (pending .entry))) (now (table .exit))) ⇒ journal) used) ⌝ }
+    ensures { λ r. ⌜ ((x : Arrays) → (Writes (dmaWrite off size value) (pastEnd off size) k r (ordered (tabled (counted x (now (pending .entry))) (now (table .entry))) (now (priorities .entry)) chip) (ordered (tabled (counted x (now (pending .entry))) (now (table .exit))) (now (priorities .exit)) chip) ⇒ journal) used) × Spared (r .verdict) (now (priorities .entry)) (now (priorities .exit)) ⌝ }
 {
+    if is_priority(off, size) {
+        return write_priority(k, off - 0x100, value, chip, priorities, journal, used);
+    }
     if !dma::edma_known(off, size) {
         return refused(k, Refusal::Register, used);
     }
@@ -200,12 +273,14 @@ pub fn write_in(
     address: u32,
     size: u32,
     value: u32,
+    chip: bool,
     table: &mut [u8; 2048],
     pending: &[u32; 64],
+    priorities: &mut [u8; 64],
     journal: &mut [u8],
     used: usize,
 ) -> Done
-    ensures { λ r. ⌜ ((x : Arrays) → (Calls (writeCall address size value) Heard.Nothing k r (tabled (counted x (now (pending .entry))) (now (table .entry))) (tabled (counted x (now (pending .entry))) (now (table .exit))) ⇒ journal) used) ⌝ }
+    ensures { λ r. ⌜ ((x : Arrays) → (Calls (writeCall address size value) Heard.Nothing k r (ordered (tabled (counted x (now (pending .entry))) (now (table .entry))) (now (priorities .entry)) chip) (ordered (tabled (counted x (now (pending .entry))) (now (table .exit))) (now (priorities .exit)) chip) ⇒ journal) used) × Spared (r .verdict) (now (priorities .entry)) (now (priorities .exit)) ⌝ }
 {
     if asking::bad_size(size) {
         return refused(k, Refusal::Size, used);
@@ -216,7 +291,18 @@ pub fn write_in(
     let off = address % 0x4000;
     let block = block_of(address);
     match block {
-        0 => write_dma(k, off, size, value, table, pending, journal, used),
+        0 => write_dma(
+            k,
+            off,
+            size,
+            value,
+            chip,
+            table,
+            pending,
+            priorities,
+            journal,
+            used,
+        ),
         _ => write_controller(k, (block - 1) as usize, off, size, value, journal, used),
     }
 }
@@ -229,17 +315,21 @@ pub fn write(
     journal: &mut [u8],
     used: usize,
 ) -> Acted
-    ensures { λ r. ⌜ Made (writeCall address size value) (view d) used r ⇒ journal ⌝ }
+    ensures { λ r. ⌜ (Made (writeCall address size value) (view d) used r ⇒ journal) × Spared (r .verdict) (d .priorities) (r .device .priorities) ⌝ }
 {
+    let chip = d.chip;
     let mut table = d.table;
     let pending = d.pending;
+    let mut priorities = d.priorities;
     let r = write_in(
         act::core_of(d),
         address,
         size,
         value,
+        chip,
         &mut table,
         &pending,
+        &mut priorities,
         journal,
         used,
     );
@@ -251,7 +341,7 @@ pub fn write(
     Acted {
         verdict,
         used: r.used,
-        device: act::device_of(core, table, busy, majors, pending, taken),
+        device: act::device_of(core, table, busy, majors, pending, taken, priorities, chip),
     }
 }
 
@@ -286,7 +376,7 @@ pub fn inputs(
     journal: &mut [u8],
     used: usize,
 ) -> Acted
-    ensures { λ r. ⌜ Made (inputsCall standing lines0 lines1 lines2) (view d) used r ⇒ journal ⌝ }
+    ensures { λ r. ⌜ (Made (inputsCall standing lines0 lines1 lines2) (view d) used r ⇒ journal) × Spared (r .verdict) (d .priorities) (r .device .priorities) ⌝ }
 {
     let pending = d.pending;
     let r = inputs_in(
@@ -305,10 +395,20 @@ pub fn inputs(
     let busy = d.busy;
     let majors = d.majors;
     let taken = d.taken;
+    let priorities = d.priorities;
     Acted {
         verdict,
         used: r.used,
-        device: act::device_of(core, table, busy, majors, pending, taken),
+        device: act::device_of(
+            core,
+            table,
+            busy,
+            majors,
+            pending,
+            taken,
+            priorities,
+            d.chip,
+        ),
     }
 }
 
@@ -353,7 +453,7 @@ pub fn pending_in(
 }
 
 pub fn pending(d: Device, channel: u32, count: u32, journal: &mut [u8], used: usize) -> Acted
-    ensures { λ r. ⌜ Made (pendingCall channel count) (view d) used r ⇒ journal ⌝ }
+    ensures { λ r. ⌜ (Made (pendingCall channel count) (view d) used r ⇒ journal) × Spared (r .verdict) (d .priorities) (r .device .priorities) ⌝ }
 {
     let mut counts = d.pending;
     let r = pending_in(act::core_of(d), channel, count, &mut counts, journal, used);
@@ -363,10 +463,11 @@ pub fn pending(d: Device, channel: u32, count: u32, journal: &mut [u8], used: us
     let busy = d.busy;
     let majors = d.majors;
     let taken = d.taken;
+    let priorities = d.priorities;
     Acted {
         verdict,
         used: r.used,
-        device: act::device_of(core, table, busy, majors, counts, taken),
+        device: act::device_of(core, table, busy, majors, counts, taken, priorities, d.chip),
     }
 }
 
@@ -415,7 +516,7 @@ pub fn acknowledge_in(
 }
 
 pub fn acknowledge(d: Device, ipl: u8, journal: &mut [u8], used: usize) -> Acknowledged
-    ensures { λ r. ⌜ MadeHeard ipl (view d) used r ⇒ journal ⌝ }
+    ensures { λ r. ⌜ (MadeHeard ipl (view d) used r ⇒ journal) × Spared (r .verdict) (d .priorities) (r .device .priorities) ⌝ }
 {
     let mut taken = d.taken;
     let r = acknowledge_in(act::core_of(d), ipl, &mut taken, journal, used);
@@ -427,10 +528,20 @@ pub fn acknowledge(d: Device, ipl: u8, journal: &mut [u8], used: usize) -> Ackno
     let busy = d.busy;
     let majors = d.majors;
     let pending = d.pending;
+    let priorities = d.priorities;
     Acknowledged {
         verdict,
         heard,
         used: done.used,
-        device: act::device_of(core, table, busy, majors, pending, taken),
+        device: act::device_of(
+            core,
+            table,
+            busy,
+            majors,
+            pending,
+            taken,
+            priorities,
+            d.chip,
+        ),
     }
 }

@@ -20,7 +20,7 @@ fn describe(table: &mut [u8; 2048]) {
 fn example() -> Device {
     let mut table = [0u8; 2048];
     describe(&mut table);
-    let mut d = device::fresh(false);
+    let mut d = device::fresh(false, false);
     d.table = table;
     d.scalars.kick = 1;
     d

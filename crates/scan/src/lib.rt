@@ -2,15 +2,16 @@
 use memory::Place;
 ghost use mathlib.Core.Path.{_≡_};
 ghost use mathlib.Core.List.{List};
-ghost use Prim.Native.Nat.{ℕ, _+_, _*_, _≤_};
+ghost use Prim.Native.Nat.{ℕ, _+_, _*_, _^_, _≤_};
+ghost use lib.Dec.{ltb};
 ghost use lib.ListN.{length, drop};
 ghost use Rattle.rules.specs.Act.{window as inWindow, table as inTable};
 ghost use Rattle.rules.specs.Bytes.{part};
 ghost use Rattle.rules.specs.TakeBack.{marked, soundStore, soundField};
 ghost use Rattle.memory.specs.Places.{holding};
-ghost use Rattle.scan.specs.Heads.{Judges, Scanned, soundWith};
+ghost use Rattle.scan.specs.Heads.{Judges, Scanned, scanning, soundWith};
 
-// What the first 8 bytes of a record leave to its value: the last so many of its 8 bytes, or, since they are damaged, nothing.
+// What the first 8 bytes of a record leave to its value: the lowest so many of its 64 bits, or, since they are damaged, nothing.
 enum Head {
     Wide(usize),
     Damaged,
@@ -27,7 +28,7 @@ pub fn is_marked(journal: &[u8], at: usize) -> bool
     journal[at + 1] == 0x52
 }
 
-// A memory record: "a wrong .. width", "a place outside .. window". Its value may take as many bytes as it is wide.
+// A memory record: "a wrong .. width", "a place outside .. window". Its value may take the bits of as many bytes as it is wide.
 fn window_head(base: u32, window: &[u8], place: u32, width: usize) -> Head
     ensures { λ r. ⌜ Judges r (soundStore base (holding (now (window .entry))) inWindow width place) ⌝ }
 {
@@ -37,7 +38,7 @@ fn window_head(base: u32, window: &[u8], place: u32, width: usize) -> Head
     let Place::At(_) = memory::where_is(base, window, place, width) else {
         return Head::Damaged;
     };
-    Head::Wide(width)
+    Head::Wide(width * 8)
 }
 
 // A descriptor record: "a wrong .. width", "a place outside table".
@@ -50,27 +51,27 @@ fn table_head(place: u32, width: usize) -> Head
     if 2048 < (place as usize) + width {
         return Head::Damaged;
     }
-    Head::Wide(width)
+    Head::Wide(width * 8)
 }
 
-// "Kind 2: field (8; number)." Its value may take the field's bytes, b / 8 for b bits; a number that names no field is a wrong place.
-fn field_head(number: u32, width: usize) -> Head
-    ensures { λ r. ⌜ ((base : ℕ) → Judges r (soundField base width number)) ⌝ }
+// "Kind 2: field (8; number)." Its value may take the bits that the field has in the mode; a number that names no field there is a wrong place.
+fn field_head(chip: bool, number: u32, width: usize) -> Head
+    ensures { λ r. ⌜ ((base : ℕ) → Judges r (soundField base chip width number)) ⌝ }
 {
     if width != 8 {
         return Head::Damaged;
     }
-    let bits = device::field_bits(number as usize);
+    let bits = device::field_bits(chip, number as usize);
     if bits == 0 {
         return Head::Damaged;
     }
-    Head::Wide((bits / 8) as usize)
+    Head::Wide(bits as usize)
 }
 
 // "A wrong mark, kind, width or place". A group's own end stands behind its records: "an end inside the group" is a wrong kind.
-fn head_of(base: u32, window: &[u8], journal: &[u8], at: usize) -> Head
+fn head_of(chip: bool, base: u32, window: &[u8], journal: &[u8], at: usize) -> Head
     requires { ⌜ at + 16 ≤ length (now journal) ⌝ }
-    ensures { λ r. ⌜ Judges r (soundWith base (holding (now (window .entry))) (part (now (journal .entry)) at 16)) ⌝ }
+    ensures { λ r. ⌜ Judges r (soundWith base (scanning chip (now (window .entry))) (part (now (journal .entry)) at 16)) ⌝ }
 {
     if !is_marked(journal, at) {
         return Head::Damaged;
@@ -81,16 +82,31 @@ fn head_of(base: u32, window: &[u8], journal: &[u8], at: usize) -> Head
     match kind {
         0 => window_head(base, window, place, width),
         1 => table_head(place, width),
-        2 => field_head(place, width),
+        2 => field_head(chip, place, width),
         _ => Head::Damaged,
     }
 }
 
+// Of a byte no bit is set but the lowest so many.
+fn is_within(byte: u8, bits: usize) -> bool
+    requires { ⌜ bits ≤ 8 ⌝ }
+    ensures { λ r. ⌜ r ≡ ltb byte (2 ^ bits) ⌝ }
+{
+    (byte as u32) >> bits == 0
+}
+
 // "The scan stops at the first damaged record": the verdict on `count` records from `from` on, found record by record and, of each, value
-// byte by value byte: those that neither width nor field leaves to the value are zero.
-pub fn all_sound(base: u32, window: &[u8], journal: &[u8], from: usize, count: usize) -> bool
+// byte by value byte: those that neither width nor field leaves to the value are zero, and the next has only bits that are left to it.
+pub fn all_sound(
+    chip: bool,
+    base: u32,
+    window: &[u8],
+    journal: &[u8],
+    from: usize,
+    count: usize,
+) -> bool
     requires { ⌜ from + count * 16 ≤ length (now journal) ⌝ }
-    ensures { λ r. ⌜ Scanned r base (now (window .entry)) count (drop from (now (journal .entry))) ⌝ }
+    ensures { λ r. ⌜ Scanned r chip base (now (window .entry)) count (drop from (now (journal .entry))) ⌝ }
 {
     let mut done: usize = 0;
     let verdict = 'records: loop {
@@ -98,15 +114,19 @@ pub fn all_sound(base: u32, window: &[u8], journal: &[u8], from: usize, count: u
             break 'records true;
         }
         let at = from + done * 16;
-        let Head::Wide(wide) = head_of(base, window, journal, at) else {
+        let Head::Wide(bits) = head_of(chip, base, window, journal, at) else {
             break 'records false;
         };
+        let wide = (bits + 7) / 8;
         let mut k: usize = 0;
         'bytes: while k + wide < 8 {
             if journal[at + 8 + k] != 0 {
                 break 'records false;
             }
             k += 1;
+        }
+        if !is_within(journal[at + 8 + k], bits + 8 - wide * 8) {
+            break 'records false;
         }
         done += 1;
     };

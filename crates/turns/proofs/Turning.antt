@@ -16,7 +16,7 @@ use Rattle.rules.specs.Calls.{worldOf, refusalNumber}
 use Rattle.rules.specs.Carry.{World, Out, ok, no, withDevice, go, Lent}
 use Rattle.rules.specs.Fields.{bitsOf, holds}
 use Rattle.rules.specs.Minor.{tcdOf, START}
-use Rattle.rules.specs.Run.{startLoop, startPasses, lineLoop, linePasses, requestLoop, requestPasses, serveLine, serve, turn, turns}
+use Rattle.rules.specs.Run.{startLoop, startPasses, lineLoop, linePasses, requestLoop, requestPasses, paced, serveLine, serve, turn, turns}
 use Rattle.rules.specs.Words.{has, gain, lose, lowest}
 use Rattle.rules.specs.State.{Device}
 use Rattle.rules.specs.With.{withScalars, withTable, withMajors}
@@ -32,7 +32,7 @@ use Rattle.channel.specs.Offers.{offeredIn}
 use Rattle.channel.specs.declared.Line.{Line}
 use Rattle.channel.specs.declared.Line.the-variants.{Sum, Broken}
 use Rattle.channel.proofs.Reading.{tcdIn, descriptor-read, offeredAt, offered-read}
-use Rattle.turns.specs.Turns.{around, turning, Turns}
+use Rattle.turns.specs.Turns.{around, turning, Turns, Paces}
 
 -- ---- the line of channel 35
 
@@ -47,13 +47,23 @@ module _ (base : ℕ) (lent : Lent) (now pace : ℕ) (t : Flow) (w w′ j j′ t
     unfolding serveLine cameTo lined
     line-broken n c e d p = sym (bind-no base lent (lineLoop linePasses 0) _ (turning d t w j tb b m p) (sym (rw e at (summed d p))))
 
-    pub line-served : (n : ℕ) (c : Flow) → l ≡ Sum n c → (until deadline : ℕ) → until ≡ now + n * pace → until < 2 ^ 64 → deadline ≡ min (c .scalars .deadline) until → deadline < 2 ^ 64
-        → (s : Scalars) → viewScalars s ≡ set (viewScalars (c .scalars)) 7 deadline
-        → (d : Device) (p : List ℕ)
-        → cameTo (Going (record { scalars = s; at = c .at })) (around d (set b 35 until) p) w′ j′ tb′ m′ ≡ go base lent (serveLine now pace) (turning d t w j tb b m p)
-    unfolding serveLine cameTo lined go put change _>>=_ _>>_ bitsOf withDevice
-    line-served n c e until deadline u f q g s v d p =
-        rw v (sym (bind-ok base lent (lineLoop linePasses 0) _ (turning d t w j tb b m p) (sym (rw e at (summed d p))) ∙ rw (← u, mod-eq-of-lt f, ← q, mod-eq-of-lt g)))
+    pub line-served : (n : ℕ) (c : Flow) → l ≡ Sum n c → (r : Flow) (b′ : List ℕ) → Paces now pace n c r b b′ → (d : Device) (p : List ℕ)
+        → cameTo (Going r) (around d b′ p) w′ j′ tb′ m′ ≡ go base lent (serveLine now pace) (turning d t w j tb b m p)
+    unfolding serveLine cameTo lined
+    line-served n c e r b′ keeps d p =
+        sym (bind-ok base lent (lineLoop linePasses 0) _ (turning d t w j tb b m p) (sym (rw e at (summed d p))) ∙ keeps .does base lent d w′ j′ tb′ m′ p)
+
+-- busy until = now + sum x pace
+module _ (now pace n : ℕ) (c : Flow) (b : List ℕ) (until deadline : ℕ) (u : until ≡ now + n * pace) (f : until < 2 ^ 64)
+    (q : deadline ≡ min (c .scalars .deadline) until) (g : deadline < 2 ^ 64) (s : Scalars) (v : viewScalars s ≡ set (viewScalars (c .scalars)) 7 deadline)
+  where
+    paces-does : (base : ℕ) (lent : Lent) (d : Device) (w j tb m p : List ℕ)
+        → go base lent (paced now pace n) (turning d c w j tb b m p) ≡ ok tt (turning d (record { scalars = s; at = c .at }) w j tb (set b 35 until) m p)
+    unfolding paced go put change _>>=_ _>>_ bitsOf withDevice
+    paces-does base lent d w j tb m p = rw (v, ← u, mod-eq-of-lt f, ← q, mod-eq-of-lt g)
+
+    pub paces : Paces now pace n c (record { scalars = s; at = c .at }) b (set b 35 until)
+    paces = record { does = paces-does; until = ap (set b 35) u }
 
 pub sum-below : {l : Line} {n : ℕ} {c : Flow} → l ≡ Sum n c → Small l → n < 2 ^ 33
 sum-below e h = rw e at h

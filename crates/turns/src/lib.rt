@@ -1,4 +1,4 @@
-// Turns: document 01, "Run, service, controllers". A turn, a run of turns, and the release of channels whose busy time is over.
+// Turns of the old mode: document 01, "Run, service, controllers". A turn, a run of turns, channel 35's pace, and the release of channels whose busy time is over.
 // Each contract says that the function does the steps of its tree (crate `rules`, specs/Run.antt), whatever the rest of the device is.
 use act::Flow;
 use act::Step;
@@ -8,11 +8,11 @@ use rules::START;
 ghost use mathlib.Core.Path.{_≡_};
 ghost use mathlib.Core.List.{List};
 ghost use Prim.Native.Nat.{ℕ, _^_, _≤_, _<_, min};
-ghost use Rattle.rules.specs.Run.{serveLine, serve, turn, runAll, over};
+ghost use Rattle.rules.specs.Run.{serveLine, serve, turn, turns, runTurns, over};
 ghost use Rattle.rules.specs.Words.{lowest};
 ghost use Rattle.act.specs.Lent.{_⇒_, by};
 ghost use Rattle.turns.specs.Frees.{freed, freeing, Frees};
-ghost use Rattle.turns.specs.Turns.{Turns};
+ghost use Rattle.turns.specs.Turns.{Turns, Paces};
 
 // ---- a turn
 
@@ -22,7 +22,20 @@ fn earlier(a: u64, b: u64) -> u64
     if a < b { a } else { b }
 }
 
-// "Then busy until = now + sum x pace, and a deadline later than that falls to it. It spends no pending."
+// "Then busy until = now + sum x pace, and a deadline later than that falls to it."
+pub fn paced(t: Flow, time: u64, pace: u64, sum: u64, busy: &mut [u64; 64]) -> Flow
+    requires { ⌜ (time ≤ 2 ^ 62) × (pace ≤ 1000000) × (sum < 2 ^ 33) ⌝ }
+    ensures { λ r. ⌜ Paces time pace sum t r ⇒ busy ⌝ }
+{
+    let until = time + sum * pace;
+    busy[LINE] = until;
+    let deadline = earlier(t.scalars.deadline, until);
+    let mut e = t;
+    e.scalars.deadline = deadline;
+    e
+}
+
+// The passes of channel 35, and its pace. "It spends no pending."
 pub fn serve_line(
     t: Flow,
     time: u64,
@@ -41,14 +54,7 @@ pub fn serve_line(
     let l = channel::line_loop(t, base, window, table, majors, staging, journal);
     match l {
         Line::Broken(n, flow) => Step::Refused(n, flow),
-        Line::Sum(sum, flow) => {
-            let until = time + sum * pace;
-            busy[LINE] = until;
-            let deadline = earlier(flow.scalars.deadline, until);
-            let mut paced = flow;
-            paced.scalars.deadline = deadline;
-            Step::Going(paced)
-        }
+        Line::Sum(sum, flow) => Step::Going(paced(flow, time, pace, sum, busy)),
     }
 }
 
@@ -171,7 +177,7 @@ pub fn run_dma_inner(
     journal: &mut [u8],
 ) -> Step
     requires { ⌜ (time ≤ 2 ^ 62) × (pace ≤ 1000000) ⌝ }
-    ensures { λ r. ⌜ Turns (runAll time pace) base (by staging) t r ⇒ window ⇒ journal ⇒ table ⇒ busy ⇒ majors ⇒ pending ⌝ }
+    ensures { λ r. ⌜ Turns (turns time pace runTurns) base (by staging) t r ⇒ window ⇒ journal ⇒ table ⇒ busy ⇒ majors ⇒ pending ⌝ }
 {
     let mut s = t;
     let mut left: usize = 4096;

@@ -1,10 +1,12 @@
 -- `back::undo_group` meets its contract. The invariant: undoing the records that are left, here and now, is undoing all of them at the start. Assumes nothing.
 use Rattle.rules.proofs.Typed.{table-size}
 use Rattle.journal.proofs.Back.{line-as-long}
-use Rattle.back.proofs.UndoLaws.{undo-turn, still-sound, undo-none, field-held, field-so, store-so, store-undone, both-undone}
+use Rattle.scan.proofs.Laws.{mode-scanning}
+use Rattle.back.proofs.UndoLaws.{undo-turn, still-sound, undo-none, field-held, field-so, store-so, store-undone, both-undone, mode-kept}
 use Rattle.back.specs.Standing.{machine}
 use Rattle.rules.specs.TakeBack.{decodeAll}
 use Rattle.rules.specs.Carry.{undo}
+use Rattle.rules.specs.State.{Device}
 use Rattle.rules.specs.View.{view}
 use Rattle.rules.specs.With.{withTable}
 use lib.ListN.{length, drop}
@@ -18,13 +20,13 @@ use Rattle.back.proofs.undo_group.Tie as tie
 
 abbrev Inv-loop : tie.InvT-loop
 Inv-loop base window₀ stands from count table₀ e₀ done₀ window table e done =
-    (done ≤ count) × (undo base (decodeAll (count - done) (drop from stands)) (machine window (withTable (view e) table)) ≡ undo base (decodeAll count (drop from stands)) (machine window₀ (withTable (view e₀) table₀))) × (length window ≡ length window₀) × (length table ≡ 2048)
+    (done ≤ count) × (undo base (decodeAll (count - done) (drop from stands)) (machine window (withTable (view e) table)) ≡ undo base (decodeAll count (drop from stands)) (machine window₀ (withTable (view e₀) table₀))) × (length window ≡ length window₀) × (length table ≡ 2048) × (e .chip ≡ e₀ .chip)
 
 abbrev μ-loop : tie.MeasureT-loop
 μ-loop base window₀ stands from count table₀ e₀ done₀ window table e done = count - done
 
 loop-holds : tie.Need-loop-holds Inv-loop μ-loop
-loop-holds c = (omega arith, rw sub-zero, refl, table-size (c .before .before .before .args .d) (c .before .before .before .good .0))
+loop-holds c = (omega arith, rw sub-zero, refl, table-size (c .before .before .before .args .d) (c .before .before .before .good .0), refl)
 
 sub-last : tie.Need-sub-last Inv-loop μ-loop
 sub-last c = omega arith
@@ -45,7 +47,7 @@ is-field-requires : tie.Need-is-field-requires Inv-loop μ-loop
 is-field-requires c κs = omega arith
 
 undo-field-requires : tie.Need-undo-field-requires Inv-loop μ-loop
-undo-field-requires c κs = (omega arith, field-held _ _ _ (still-sound _ _ _ _ (omega arith) _ (c .before .before .before .before .before .before .before .before .loop .window) (c .before .before .before .before .before .before .before .before .loop .inv .2) (c .before .before .before .before .before .before .before .before .before .before .before .before .pre .1) _ (omega arith)) (sym (c .before .is-field .ensures) ∙ c .if1 .taken))
+undo-field-requires c κs = (omega arith, field-held _ _ _ (mode-scanning _ _ ∙ sym (c .before .before .before .before .before .before .before .before .loop .inv .4)) (still-sound _ _ _ _ (omega arith) _ _ (c .before .before .before .before .before .before .before .before .loop .window) (c .before .before .before .before .before .before .before .before .loop .inv .2) (c .before .before .before .before .before .before .before .before .before .before .before .before .pre .1) _ (omega arith)) (sym (c .before .is-field .ensures) ∙ c .if1 .taken))
 
 add-done : tie.Need-add-done Inv-loop μ-loop
 add-done c = omega arith
@@ -56,12 +58,15 @@ loop-less c = omega arith
 loop-again : tie.Need-loop-again Inv-loop μ-loop
 loop-again c =
     let one = c .before .before .before .before .undo-store in
-    let inv = c .before .before .before .before .before .before .before .before .loop .inv in
-    let field = c .before .is-field .ensures in (
+    let at = c .before .before .before .before .before .before .before .before .loop in
+    let inv = at .inv in
+    let field = c .before .is-field .ensures in
+    let undone = ⊎-elim (λ p. field-so _ (view (at .e)) {r = view (c .if1 .e)} (sym field ∙ p .0 .taken) (ap view (p .2) ∙ p .1 .ensures)) (λ p. store-so _ _ (sym field ∙ p .0 .left) (ap view (p .1))) (c .if1 .came) in (
       omega arith,
-      undo-turn _ _ _ _ (omega arith) _ (omega arith) _ (both-undone _ _ _ _ _ _ (view (c .before .before .before .before .before .before .before .before .loop .e)) {e = view (c .if1 .e)} (store-undone _ _ _ _ (inv .3) (still-sound _ _ _ _ (omega arith) _ (c .before .before .before .before .before .before .before .before .loop .window) (inv .2) (c .before .before .before .before .before .before .before .before .before .before .before .before .pre .1) _ (omega arith)) (one .ensures)) (⊎-elim (λ p. field-so _ _ (sym field ∙ p .0 .taken) (ap view (p .2) ∙ p .1 .ensures)) (λ p. store-so _ _ (sym field ∙ p .0 .left) (ap view (p .1))) (c .if1 .came))) ∙ inv .1,
+      undo-turn _ _ _ _ (omega arith) _ (omega arith) _ (both-undone _ _ _ _ _ _ (view (at .e)) (store-undone _ _ _ _ _ (inv .3) (still-sound _ _ _ _ (omega arith) _ _ (at .window) (inv .2) (c .before .before .before .before .before .before .before .before .before .before .before .before .pre .1) _ (omega arith)) (one .ensures)) undone) ∙ inv .1,
       omega (arith, one .kept .1 .0),
-      line-as-long _ _ _ _ _ _ (one .ensures) (view (c .before .before .before .before .before .before .before .before .loop .e)) ∙ inv .3,
+      line-as-long _ _ _ _ _ _ (one .ensures) (view (at .e)) ∙ inv .3,
+      ap (λ (d : Device). d .chip) undone ∙ mode-kept _ _ ∙ inv .4,
     )
 
 same-length : tie.Need-same-length Inv-loop μ-loop

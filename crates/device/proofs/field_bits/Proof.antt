@@ -1,9 +1,9 @@
--- `device::field_bits` meets its contract: a table for the scalars, one for a controller, and one width for each array. Assumes nothing.
+-- `device::field_bits` meets its contract: a table for the scalars, one for a controller, and one width for each array; priorities stand in the chip's mode alone. Assumes nothing.
 use mathlib.Core.Path.{refl}
 use native.Mathlib.Omega.{arith}
 use borrow.Author.Needs.{needs}
 use Rattle.rules.specs.Fields.{bitsOf}
-use Rattle.device.proofs.Laws.{found-inside, found-bits, listed-bits, own-bits}
+use Rattle.device.proofs.Laws.{found-inside, found-bits, listed-bits, own-bits, priority-found, priority-bits}
 use Rattle.device.proofs.field_bits.Statement.{statement}
 use Rattle.device.proofs.field_bits.Tie as tie
 
@@ -46,6 +46,9 @@ enum-told-5 c = search needs
 enum-told-6 : tie.Need-enum-told-6
 enum-told-6 c = search needs
 
+enum-told-7 : tie.Need-enum-told-7
+enum-told-7 c = search needs
+
 returns : tie.Need-returns
 returns c = found-bits (c .before .before .spot-of .ensures) (c .enum-told .given .1) refl
 
@@ -53,7 +56,7 @@ returns-2 : tie.Need-returns-2
 returns-2 c = let e = c .before .spot .given .1 in let p = c .before .before .before .spot-of .ensures in found-bits p e (listed-bits _ (found-inside p e))
 
 returns-3 : tie.Need-returns-3
-returns-3 c = let e = c .before .spot2 .given .1 in let p = c .before .before .before .spot-of .ensures in found-bits p e (own-bits _ _ (found-inside p e .1))
+returns-3 c = let e = c .before .spot2 .given .1 in let p = c .before .before .before .spot-of .ensures in found-bits p e (own-bits _ _ _ (found-inside p e .1))
 
 returns-4 : tie.Need-returns-4
 unfolding bitsOf
@@ -75,6 +78,9 @@ returns-8 : tie.Need-returns-8
 unfolding bitsOf
 returns-8 c = found-bits (c .before .before .spot-of .ensures) (c .enum-told6 .given .1) refl
 
+returns-9 : tie.Need-returns-9
+returns-9 c = let e = c .enum-told7 .given .1 in let p = c .before .before .spot-of .ensures in found-bits p e (priority-bits _ (priority-found p e))
+
 pub field-bits-spec : {M : Type 1} → statement M
 field-bits-spec =
     tie.close
@@ -92,6 +98,7 @@ field-bits-spec =
     enum-told-4
     enum-told-5
     enum-told-6
+    enum-told-7
     returns
     returns-2
     returns-3
@@ -99,4 +106,5 @@ field-bits-spec =
     returns-5
     returns-6
     returns-7
-    returns-8)
+    returns-8
+    returns-9)

@@ -3,7 +3,7 @@ use mathlib.Core.Path.{refl}
 use borrow.Author.Tests.{ltb-true}
 use borrow.Author.Needs.{needs}
 use Rattle.rules.specs.Fields.{bitsOf}
-use Rattle.device.proofs.Laws.{found-inside, found-fits, found-puts}
+use Rattle.device.proofs.Laws.{found-inside, found-fits, found-puts, fits-bits, priority-byte}
 use Rattle.device.proofs.with_number.Statement.{statement}
 use Rattle.device.proofs.with_number.Tie as tie
 
@@ -24,7 +24,7 @@ enum-known-spot-2 : tie.Need-enum-known-spot-2
 enum-known-spot-2 c = search needs
 
 with-own-requires : tie.Need-with-own-requires
-with-own-requires c κs = let e = c .before .spot2 .given .1 in let p = c .before .before .before .spot-of .ensures in let i = found-inside p e in (i .0, i .1, ltb-true _ _ (found-fits p e _ (c .before .before .before .before .pre)))
+with-own-requires c κs = let e = c .before .spot2 .given .1 in let p = c .before .before .before .spot-of .ensures in let i = found-inside p e in (i .0, i .1, fits-bits _ _ _ (found-fits p e _ (c .before .before .before .before .pre)))
 
 enum-known-spot-3 : tie.Need-enum-known-spot-3
 enum-known-spot-3 c = search needs
@@ -64,6 +64,15 @@ enum-known-spot-7 c = search needs
 with-taken-requires : tie.Need-with-taken-requires
 with-taken-requires c κs = found-inside (c .before .before .before .spot-of .ensures) (c .before .spot7 .given .1)
 
+enum-known-spot-8 : tie.Need-enum-known-spot-8
+enum-known-spot-8 c = search needs
+
+cast-with-priority : tie.Need-cast-with-priority
+cast-with-priority c = record { fits = priority-byte (c .before .before .before .before .args .d .chip) _ _ (found-fits (c .before .before .before .spot-of .ensures) (c .before .spot8 .given .1) _ (c .before .before .before .before .pre)) }
+
+with-priority-requires : tie.Need-with-priority-requires
+with-priority-requires c κs = let e = c .before .spot8 .given .1 in let p = c .before .before .before .spot-of .ensures in (found-inside p e, ltb-true _ _ (found-fits p e _ (c .before .before .before .before .pre)))
+
 returns : tie.Need-returns
 returns c = found-puts (c .before .before .spot-of .ensures) (c .enum-told .given .1) _ _ refl
 
@@ -88,6 +97,9 @@ returns-7 c = found-puts (c .before .before .before .before .spot-of .ensures) (
 returns-8 : tie.Need-returns-8
 returns-8 c = found-puts (c .before .before .before .before .spot-of .ensures) (c .before .before .spot7 .given .1) _ _ (c .with-taken .ensures)
 
+returns-9 : tie.Need-returns-9
+returns-9 c = found-puts (c .before .before .before .before .spot-of .ensures) (c .before .before .spot8 .given .1) _ _ (c .with-priority .ensures)
+
 pub with-number-spec : {M : Type 1} → statement M
 with-number-spec =
     tie.close
@@ -110,6 +122,9 @@ with-number-spec =
     with-source-requires
     enum-known-spot-7
     with-taken-requires
+    enum-known-spot-8
+    cast-with-priority
+    with-priority-requires
     returns
     returns-2
     returns-3
@@ -117,4 +132,5 @@ with-number-spec =
     returns-5
     returns-6
     returns-7
-    returns-8)
+    returns-8
+    returns-9)

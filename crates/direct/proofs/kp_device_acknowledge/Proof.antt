@@ -50,9 +50,9 @@ use Rattle.rules.specs.declared.Device.{Device}
 use Rattle.rules.proofs.Device as T
 use Rattle.rules.proofs.Device.Laws as T′
 use Rattle.rules.proofs.Each.{typed-proper}
-use Rattle.act.specs.declared.Core.{Core}
-use Rattle.act.proofs.Core as K
-use Rattle.act.proofs.Core.Laws as K′
+use Rattle.direct.specs.declared.Short.{Short}
+use Rattle.direct.proofs.Short as K
+use Rattle.direct.proofs.Short.Laws as K′
 use Prim.Native.Nat.{_%_}
 use Rattle.rules.specs.Calls.{ack}
 use Rattle.act.specs.Parts.{Arrays, arraysOf, taking}
@@ -97,19 +97,19 @@ module _ {M : Type 1} (𝓤 : URA M) (H : Heap 𝓤) (A : Atoms 𝓤) (W : Given
   abbrev Post : Val → SProp 𝓤
   Post = walkOf 𝓤 H A f.ended stayed (f.clauses 𝓤 H A at-mem run) .post (((κ0, (κ1, tt)), (q0, (q1, tt)), bounds, a, vals), tt)
 
-  -- its core
-  abbrev k : Core
-  k = record { scalars = h .scalars; controllers = h .controllers; «ignore_masks» = h .«ignore_masks» }
+  -- what is copied of it
+  abbrev k : Short
+  k = record { scalars = h .scalars; controllers = h .controllers; «ignore_masks» = h .«ignore_masks»; chip = h .chip }
 
   abbrev mach-k : Val
   mach-k = LL.tuple-val K.the-type K′.the-laws (K.the-type .to k)
 
   core-is : Is T.the-row h (mach h ∷ []) → Is K.the-row k (mach-k ∷ [])
-  core-is g = let is = LL.owed T.the-type T′.the-laws h _ g in LL.owes K.the-type K′.the-laws k (is .0, (is .1 .1 .1 .1 .1 .1 .0, (is .1 .1 .1 .1 .1 .1 .1 .0, tt)))
+  core-is g = let is = LL.owed T.the-type T′.the-laws h _ g in LL.owes K.the-type K′.the-laws k (is .0, (is .1 .1 .1 .1 .1 .1 .1 .0, (is .1 .1 .1 .1 .1 .1 .1 .1 .0, (is .1 .1 .1 .1 .1 .1 .1 .1 .1 .0, tt))))
 
   -- the device with other lists in these fields
   abbrev left-in : List ℕ → Device
-  left-in zs-taken = record { scalars = h .scalars; table = h .table; busy = h .busy; majors = h .majors; taken = zs-taken; pending = h .pending; controllers = h .controllers; «ignore_masks» = h .«ignore_masks» }
+  left-in zs-taken = record { scalars = h .scalars; table = h .table; busy = h .busy; majors = h .majors; taken = zs-taken; pending = h .pending; priorities = h .priorities; controllers = h .controllers; «ignore_masks» = h .«ignore_masks»; chip = h .chip }
 
   abbrev x-taken : GName → RefT (List ℕ)
   x-taken γ′ = record { ptr = (b, o + 3144); name = γ′; now = h .taken }
@@ -138,44 +138,45 @@ module _ {M : Type 1} (𝓤 : URA M) (H : Heap 𝓤) (A : Atoms 𝓤) (W : Given
     walk : Room u8 (length ys-j) → ent 𝓤 (onEntry 𝓤 H A f.signature (κ0, (κ1, tt)) (q0, (q1, tt)) a vals) (WpFn 𝓤 H C Λ code.function (vptr b o ∷ vint w32 n ∷ s-j ∷ vint w64 u ∷ []) Post)
     walk room-j =
         qed W ((‵ (flft κ0 q0) ⊛ ‵ (flft κ1 q1) ⊛ ‵ ftrue) ∷ ‵ (owns (MutRef (named 0) κ0 T.the-row ∷ u32 ∷ MutSlice (named 1) κ1 u8 ∷ u64 ∷ []) a vals) ∷ []) ∵ enter ! C Λ code.function (vptr b o ∷ vint w32 n ∷ s-j ∷ vint w64 u ∷ []) _ $
-        alloc1 ! (λ l0. alloc1 ! (λ l1. alloc1 ! (λ l2. alloc1 ! (λ l3. alloc1 ! (λ l4. alloc1 ! (λ l5. alloc1 ! (λ l6. alloc1 ! (λ l7. alloc1 ! (λ l8. alloc1 ! (λ l9. alloc1 ! (λ l10. alloc1 ! (λ l11. alloc0 ! $ params1 ! $
-        pass1 ! (init ! 20 refl (tt, tt)) $ pass1 ! (init ! 18 refl (tt, record { fits = n-fits })) $ pass1 ! (init ! 16 refl (tt, (tt, (record { fits = room-j .0 }, tt)))) $ pass1 ! (init ! 14 refl (tt, record { fits = u-fits })) $ pass0 ! $
+        alloc1 ! (λ l0. alloc1 ! (λ l1. alloc1 ! (λ l2. alloc1 ! (λ l3. alloc1 ! (λ l4. alloc1 ! (λ l5. alloc1 ! (λ l6. alloc1 ! (λ l7. alloc1 ! (λ l8. alloc1 ! (λ l9. alloc1 ! (λ l10. alloc1 ! (λ l11. alloc1 ! (λ l12. alloc0 ! $ params1 ! $
+        pass1 ! (init ! 22 refl (tt, tt)) $ pass1 ! (init ! 20 refl (tt, record { fits = n-fits })) $ pass1 ! (init ! 18 refl (tt, (tt, (record { fits = room-j .0 }, tt)))) $ pass1 ! (init ! 16 refl (tt, record { fits = u-fits })) $ pass0 ! $
         -- the borrow of the device is opened
-        move ! (25 ∷ []) $ fsplit ! $ fsplit3 ! $ drop ! $ move ! (27 ∷ []) $ split ! $ move ! (2 ∷ 3 ∷ 0 ∷ []) $
+        move ! (27 ∷ []) $ fsplit ! $ fsplit3 ! $ drop ! $ move ! (29 ∷ []) $ split ! $ move ! (2 ∷ 3 ∷ 0 ∷ []) $
         opens ! tt T.the-row {h = h} b o (λ vs. spelt ! T.the-row (Is T.the-row) (shows 𝓤 H A T.the-row) (LL.vals T.the-type T′.the-laws) (LL.tells T.the-type T′.the-laws) fullShare h vs b o $
         use1 W (‵ (fat fullShare T′.mir b o (mach h))) (W .laws .raw-at fullShare T′.mir b o (mach h)) $
         move ! (1 ∷ []) $ peeks ! T.the-row (Is T.the-row) (shows 𝓤 H A T.the-row) h (mach h ∷ []) (λ g. move ! (1 ∷ 0 ∷ []) $
-        -- [the device's cell; what a Device owns; the open borrow; obs; auth; the other tokens; what the other parameters own; _11; …; _1; …; room for _0; …]
-        assigns ! (of-opd ! (load ! (from ! (hop ! (look ! 27 refl) (fld ! refl (stop !)))) (look-in ! 0 (sub ! 0 refl (whole !))))) (from ! (stop !)) (init ! 17 refl (T′.the-laws .0 .lawful 𝓤 H A W .typed (T.the-type .to h .0) _ (LL.owed T.the-type T′.the-laws h _ g .0) .0)) $
-        assigns ! (of-opd ! (load ! (from ! (hop ! (look ! 27 refl) (fld ! refl (stop !)))) (look-in ! 0 (sub ! 6 refl (whole !))))) (from ! (stop !)) (init ! 15 refl (T′.the-laws .1 .1 .1 .1 .1 .1 .0 .lawful 𝓤 H A W .typed (T.the-type .to h .1 .1 .1 .1 .1 .1 .0) _ (LL.owed T.the-type T′.the-laws h _ g .1 .1 .1 .1 .1 .1 .0) .0)) $
-        assigns ! (of-opd ! (load ! (from ! (hop ! (look ! 27 refl) (fld ! refl (stop !)))) (look-in ! 0 (sub ! 7 refl (whole !))))) (from ! (stop !)) (init ! 13 refl (T′.the-laws .1 .1 .1 .1 .1 .1 .1 .0 .lawful 𝓤 H A W .typed (T.the-type .to h .1 .1 .1 .1 .1 .1 .1 .0) _ (LL.owed T.the-type T′.the-laws h _ g .1 .1 .1 .1 .1 .1 .1 .0) .0)) $
-        assigns ! (agg ! (and-then ! (load ! (from ! (stop !)) (look ! 17 refl)) (and-then ! (load ! (from ! (stop !)) (look ! 15 refl)) (and-then ! (load ! (from ! (stop !)) (look ! 13 refl)) (no-more !))))) (from ! (stop !)) (init ! 19 refl (LL.lawful K.the-type K′.the-laws 𝓤 H A W .typed k _ (core-is g) .0)) $
-        assigns ! (addr ! (from ! (hop ! (look ! 27 refl) (fld ! refl (stop !))))) (from ! (stop !)) (init ! 11 refl (tt, tt)) $
-        assigns ! (addr ! (from ! (fld ! refl (hop ! (look-in ! 23 (sub ! 0 refl (whole !))) (stop !))))) (from ! (stop !)) (init ! 9 refl (tt, tt)) $
-        assigns ! (agg ! (and-then ! (load ! (from ! (stop !)) (look ! 9 refl)) (and-then ! (load ! (from ! (fld ! refl (stop !))) (look-in ! 23 (sub ! 1 refl (whole !)))) (no-more !)))) (from ! (stop !)) (init ! 7 refl (tt, (tt, (record { fits = room-j .0 }, tt)))) $
+        -- [the device's cell; what a Device owns; the open borrow; obs; auth; the other tokens; what the other parameters own; _12; …; _1; …; room for _0; …]
+        assigns ! (of-opd ! (load ! (from ! (hop ! (look ! 29 refl) (fld ! refl (stop !)))) (look-in ! 0 (sub ! 0 refl (whole !))))) (from ! (stop !)) (init ! 19 refl (T′.the-laws .0 .lawful 𝓤 H A W .typed (T.the-type .to h .0) _ (LL.owed T.the-type T′.the-laws h _ g .0) .0)) $
+        assigns ! (of-opd ! (load ! (from ! (hop ! (look ! 29 refl) (fld ! refl (stop !)))) (look-in ! 0 (sub ! 7 refl (whole !))))) (from ! (stop !)) (init ! 17 refl (T′.the-laws .1 .1 .1 .1 .1 .1 .1 .0 .lawful 𝓤 H A W .typed (T.the-type .to h .1 .1 .1 .1 .1 .1 .1 .0) _ (LL.owed T.the-type T′.the-laws h _ g .1 .1 .1 .1 .1 .1 .1 .0) .0)) $
+        assigns ! (of-opd ! (load ! (from ! (hop ! (look ! 29 refl) (fld ! refl (stop !)))) (look-in ! 0 (sub ! 8 refl (whole !))))) (from ! (stop !)) (init ! 15 refl (T′.the-laws .1 .1 .1 .1 .1 .1 .1 .1 .0 .lawful 𝓤 H A W .typed (T.the-type .to h .1 .1 .1 .1 .1 .1 .1 .1 .0) _ (LL.owed T.the-type T′.the-laws h _ g .1 .1 .1 .1 .1 .1 .1 .1 .0) .0)) $
+        assigns ! (of-opd ! (load ! (from ! (hop ! (look ! 29 refl) (fld ! refl (stop !)))) (look-in ! 0 (sub ! 9 refl (whole !))))) (from ! (stop !)) (init ! 13 refl (T′.the-laws .1 .1 .1 .1 .1 .1 .1 .1 .1 .0 .lawful 𝓤 H A W .typed (T.the-type .to h .1 .1 .1 .1 .1 .1 .1 .1 .1 .0) _ (LL.owed T.the-type T′.the-laws h _ g .1 .1 .1 .1 .1 .1 .1 .1 .1 .0) .0)) $
+        assigns ! (agg ! (and-then ! (load ! (from ! (stop !)) (look ! 19 refl)) (and-then ! (load ! (from ! (stop !)) (look ! 17 refl)) (and-then ! (load ! (from ! (stop !)) (look ! 15 refl)) (and-then ! (load ! (from ! (stop !)) (look ! 13 refl)) (no-more !)))))) (from ! (stop !)) (init ! 21 refl (LL.lawful K.the-type K′.the-laws 𝓤 H A W .typed k _ (core-is g) .0)) $
+        assigns ! (addr ! (from ! (hop ! (look ! 29 refl) (fld ! refl (stop !))))) (from ! (stop !)) (init ! 11 refl (tt, tt)) $
+        assigns ! (addr ! (from ! (fld ! refl (hop ! (look-in ! 25 (sub ! 0 refl (whole !))) (stop !))))) (from ! (stop !)) (init ! 9 refl (tt, tt)) $
+        assigns ! (agg ! (and-then ! (load ! (from ! (stop !)) (look ! 9 refl)) (and-then ! (load ! (from ! (fld ! refl (stop !))) (look-in ! 25 (sub ! 1 refl (whole !)))) (no-more !)))) (from ! (stop !)) (init ! 7 refl (tt, (tt, (record { fits = room-j .0 }, tt)))) $
         -- the device is taken apart, and fields are lent
-        use2 W (‵ (partAt T.the-row fullShare h b o)) (cell-in 𝓤 H A W b o h) $ use1 W (‵ (Fields b o h) ⊛ raw (Back 𝓤 H A b o)) (apart 𝓤 H A W b o h) $ split ! $ fsplit ! $ move ! (1 ∷ []) $ fsplit ! $ move ! (1 ∷ []) $ fsplit ! $ move ! (1 ∷ []) $ fsplit ! $ move ! (1 ∷ []) $ fsplit ! $ move ! (1 ∷ []) $ fsplit ! $ move ! (1 ∷ []) $ fsplit ! $ move ! (1 ∷ []) $ fsplit ! $ move ! (1 ∷ []) $ drop ! $
-        rewrite ! 3 (λ (ys : List ℕ). ‵ (partAt (Array u64 192) fullShare ys b (o + 3144))) (map-id (h .taken)) refl $ move ! (3 ∷ []) $
+        use2 W (‵ (partAt T.the-row fullShare h b o)) (cell-in 𝓤 H A W b o h) $ use1 W (‵ (Fields b o h) ⊛ raw (Back 𝓤 H A b o)) (apart 𝓤 H A W b o h) $ split ! $ fsplit ! $ move ! (1 ∷ []) $ fsplit ! $ move ! (1 ∷ []) $ fsplit ! $ move ! (1 ∷ []) $ fsplit ! $ move ! (1 ∷ []) $ fsplit ! $ move ! (1 ∷ []) $ fsplit ! $ move ! (1 ∷ []) $ fsplit ! $ move ! (1 ∷ []) $ fsplit ! $ move ! (1 ∷ []) $ fsplit ! $ move ! (1 ∷ []) $ fsplit ! $ move ! (1 ∷ []) $ drop ! $
+        rewrite ! 5 (λ (ys : List ℕ). ‵ (partAt (Array u64 192) fullShare ys b (o + 3144))) (map-id (h .taken)) refl $ move ! (5 ∷ []) $
         lft-new ! tt (λ α-taken.
         move ! (1 ∷ []) $ use1 W (later (some (λ (γ-taken : GName). ‵ (MutRef (named 0) (α-taken ∷ []) (Array u64 192) .own (x-taken γ-taken) (vptr b (o + 3144) ∷ [])) ⊛ ‵ (flent (α-taken ∷ []) (Body (mem (Array u64 192)) b (o + 3144) γ-taken))))) (lends-ref 𝓤 H A W (Array u64 192) (named 0) (α-taken ∷ []) (h .taken) b (o + 3144)) $ await ! tt $ pick ! (λ γ-taken. split ! $
-        move ! (15 ∷ []) $ fsplit ! $ drop ! $ fsplit ! $ move ! (1 ∷ []) $ fsplit ! $ drop ! $ drop ! $ move ! (15 ∷ []) $ split ! $ join ! $ move ! (4 ∷ 0 ∷ []) $ join ! $ move ! (2 ∷ 1 ∷ []) $ join ! $ move ! (1 ∷ 0 ∷ []) $ join ! $
+        move ! (17 ∷ []) $ fsplit ! $ drop ! $ fsplit ! $ move ! (1 ∷ []) $ fsplit ! $ drop ! $ drop ! $ move ! (17 ∷ []) $ split ! $ join ! $ move ! (4 ∷ 0 ∷ []) $ join ! $ move ! (2 ∷ 1 ∷ []) $ join ! $ move ! (1 ∷ 0 ∷ []) $ join ! $
         use1 W (raw (By 𝓤 H A at-mem run .pre (to-by α-taken γ-taken))) (goes α-taken γ-taken (core-is g)) $
-        calls-at ! fm (By 𝓤 H A at-mem run) known (to-by α-taken γ-taken) (and-then ! (load ! (from ! (stop !)) (look ! 25 refl)) (and-then ! (load ! (from ! (stop !)) (look ! 31 refl)) (and-then ! (load ! (from ! (stop !)) (look ! 17 refl)) (and-then ! (load ! (from ! (stop !)) (look ! 13 refl)) (and-then ! (load ! (from ! (stop !)) (look ! 27 refl)) (no-more !)))))) (λ w.
+        calls-at ! fm (By 𝓤 H A at-mem run) known (to-by α-taken γ-taken) (and-then ! (load ! (from ! (stop !)) (look ! 29 refl)) (and-then ! (load ! (from ! (stop !)) (look ! 35 refl)) (and-then ! (load ! (from ! (stop !)) (look ! 19 refl)) (and-then ! (load ! (from ! (stop !)) (look ! 15 refl)) (and-then ! (load ! (from ! (stop !)) (look ! 31 refl)) (no-more !)))))) (λ w.
         use1 W (later (some (λ (r : ℕ). ((‵ (flft (α-taken ∷ []) fullShare) ⊛ ‵ (flft κ1 q1) ⊛ ‵ ftrue) ⊛ ‵ (u64 .own r (w ∷ []))) ⊛ raw (ensured 𝓤 H A by′.ended (by′.clauses 𝓤 H A at-mem run) ((α-taken ∷ []), (κ1, tt)) (k, (n, (x-taken γ-taken, (x-j, (u, tt))))) tt r)))) (id⊢ 𝓤 _) $ await ! tt $ pick ! (λ r.
         -- what the callee ensures, at some last lists
         split ! $ move ! (1 ∷ []) $ use1 W (some (λ (zs : Unit {0} × (Unit {0} × (List ℕ × (List ℕ × (Unit {0} × Unit {0}))))). ‵ (lasts by′.ended ((α-taken ∷ []), (κ1, tt)) (k, (n, (x-taken γ-taken, (x-j, (u, tt))))) zs) ⊛ raw (fact 𝓤 (Said r (zs .1 .1 .0) (zs .1 .1 .1 .0))))) (id⊢ 𝓤 _) $ pick ! (λ zs.
         split ! $ move ! (1 ∷ []) $ heard ! (Said r (zs .1 .1 .0) (zs .1 .1 .1 .0)) (λ e.
         fsplit ! $ drop ! $ fsplit ! $ drop ! $ fsplit ! $ move ! (1 ∷ []) $ fsplit ! $ fsplit ! $ move ! (1 ∷ []) $ feqL ! (λ l-j.
         move ! (1 ∷ []) $ fsplit ! $ drop ! $ drop ! $ move ! (2 ∷ []) $ split ! $ move ! (1 ∷ []) $ peeks ! u64 (Is u64) (shows 𝓤 H A u64) r (w ∷ []) (λ is.
-        land ! (from ! (stop !)) (init ! 38 refl (uint-lawful 𝓤 H A W w64 .typed r _ is .0)) $ rewrite ! 38 (λ (z : Val). ‵ (fat fullShare (tyInt w64) l0 0 z)) (ap only (uint-tells w64 r _ is)) refl $
+        land ! (from ! (stop !)) (init ! 42 refl (uint-lawful 𝓤 H A W w64 .typed r _ is .0)) $ rewrite ! 42 (λ (z : Val). ‵ (fat fullShare (tyInt w64) l0 0 z)) (ap only (uint-tells w64 r _ is)) refl $
         -- the loans end, and the fields come back at their last lists
         move ! (1 ∷ []) $ split ! $ move ! (1 ∷ []) $ split ! $ move ! (2 ∷ []) $ lft-end ! tt $ move ! (0 ∷ 6 ∷ 5 ∷ []) $ use3 W (later (‵ (partAt (Array u64 192) fullShare (zs .1 .1 .0) b (o + 3144)))) (ref-back 𝓤 H A W (Array u64 192) (α-taken ∷ []) γ-taken (zs .1 .1 .0) b (o + 3144)) $ await ! tt $ rewrite ! 0 (λ (ys : List ℕ). ‵ (partAt (Array u64 192) fullShare ys b (o + 3144))) (sym (map-id (zs .1 .1 .0))) refl $
-        nothing ! $ move ! (6 ∷ 0 ∷ []) $ fjoin ! $ move ! (6 ∷ 0 ∷ []) $ fjoin ! $ move ! (6 ∷ 0 ∷ []) $ fjoin ! $ move ! (1 ∷ 0 ∷ []) $ fjoin ! $ move ! (5 ∷ 0 ∷ []) $ fjoin ! $ move ! (5 ∷ 0 ∷ []) $ fjoin ! $ move ! (5 ∷ 0 ∷ []) $ fjoin ! $ move ! (5 ∷ 0 ∷ []) $ fjoin ! $ move ! (0 ∷ 5 ∷ []) $ use2 W (‵ (partAt T.the-row fullShare (left-in (zs .1 .1 .0)) b o)) (together 𝓤 H A W b o (left-in (zs .1 .1 .0))) $ use1 W (‵ (fat fullShare T′.mir b o (mach (left-in (zs .1 .1 .0)))) ⊛ ‵ (T.the-row .own (left-in (zs .1 .1 .0)) (mach (left-in (zs .1 .1 .0)) ∷ []))) (cell-out 𝓤 H A W b o (left-in (zs .1 .1 .0))) $ split ! $ move ! (1 ∷ []) $ peeks ! T.the-row (Is T.the-row) (shows 𝓤 H A T.the-row) (left-in (zs .1 .1 .0)) (mach (left-in (zs .1 .1 .0)) ∷ []) (λ g′.
+        nothing ! $ move ! (6 ∷ 0 ∷ []) $ fjoin ! $ move ! (6 ∷ 0 ∷ []) $ fjoin ! $ move ! (6 ∷ 0 ∷ []) $ fjoin ! $ move ! (6 ∷ 0 ∷ []) $ fjoin ! $ move ! (6 ∷ 0 ∷ []) $ fjoin ! $ move ! (1 ∷ 0 ∷ []) $ fjoin ! $ move ! (5 ∷ 0 ∷ []) $ fjoin ! $ move ! (5 ∷ 0 ∷ []) $ fjoin ! $ move ! (5 ∷ 0 ∷ []) $ fjoin ! $ move ! (5 ∷ 0 ∷ []) $ fjoin ! $ move ! (0 ∷ 5 ∷ []) $ use2 W (‵ (partAt T.the-row fullShare (left-in (zs .1 .1 .0)) b o)) (together 𝓤 H A W b o (left-in (zs .1 .1 .0))) $ use1 W (‵ (fat fullShare T′.mir b o (mach (left-in (zs .1 .1 .0)))) ⊛ ‵ (T.the-row .own (left-in (zs .1 .1 .0)) (mach (left-in (zs .1 .1 .0)) ∷ []))) (cell-out 𝓤 H A W b o (left-in (zs .1 .1 .0))) $ split ! $ move ! (1 ∷ []) $ peeks ! T.the-row (Is T.the-row) (shows 𝓤 H A T.the-row) (left-in (zs .1 .1 .0)) (mach (left-in (zs .1 .1 .0)) ∷ []) (λ g′.
         -- the borrow is closed at the new device
         move ! (1 ∷ 0 ∷ 6 ∷ 7 ∷ 8 ∷ []) $ use1 W (‵ (cellAt fullShare (T.the-row .mir) (mach (left-in (zs .1 .1 .0)) ∷ []) b o)) (W .laws .at-raw fullShare T′.mir b o (mach (left-in (zs .1 .1 .0)))) $ closes ! tt T.the-row (left-in (zs .1 .1 .0)) (mach (left-in (zs .1 .1 .0)) ∷ []) b o $ move ! (3 ∷ 4 ∷ []) $ join ! $
-        returns ! (look ! 28 refl) $ forget ! 6 refl $ forget ! 8 refl $ forget ! 10 refl $ forget ! 12 refl $ forget ! 14 refl $ forget ! 16 refl $ forget ! 18 refl $ forget ! 20 refl $ forget ! 22 refl $ forget ! 24 refl $ forget ! 26 refl $ forget ! 28 refl $
-        move ! (28 ∷ 29 ∷ []) $ free1 ! $ move ! (26 ∷ 27 ∷ []) $ free1 ! $ move ! (24 ∷ 25 ∷ []) $ free1 ! $ move ! (22 ∷ 23 ∷ []) $ free1 ! $ move ! (20 ∷ 21 ∷ []) $ free1 ! $ move ! (18 ∷ 19 ∷ []) $ free1 ! $ move ! (16 ∷ 17 ∷ []) $ free1 ! $ move ! (14 ∷ 15 ∷ []) $ free1 ! $ move ! (12 ∷ 13 ∷ []) $ free1 ! $ move ! (10 ∷ 11 ∷ []) $ free1 ! $ move ! (8 ∷ 9 ∷ []) $ free1 ! $ move ! (6 ∷ 7 ∷ []) $ free1 ! $ free0 ! $
-        keep ! (1 ∷ 2 ∷ 3 ∷ 0 ∷ 5 ∷ []) $ by ! (exits r (zs .1 .1 .0) (zs .1 .1 .1 .0) (is .1) (e (arraysOf h) (typed-proper h g)) l-j))))))))))))))))))))))))
+        returns ! (look ! 30 refl) $ forget ! 6 refl $ forget ! 8 refl $ forget ! 10 refl $ forget ! 12 refl $ forget ! 14 refl $ forget ! 16 refl $ forget ! 18 refl $ forget ! 20 refl $ forget ! 22 refl $ forget ! 24 refl $ forget ! 26 refl $ forget ! 28 refl $ forget ! 30 refl $
+        move ! (30 ∷ 31 ∷ []) $ free1 ! $ move ! (28 ∷ 29 ∷ []) $ free1 ! $ move ! (26 ∷ 27 ∷ []) $ free1 ! $ move ! (24 ∷ 25 ∷ []) $ free1 ! $ move ! (22 ∷ 23 ∷ []) $ free1 ! $ move ! (20 ∷ 21 ∷ []) $ free1 ! $ move ! (18 ∷ 19 ∷ []) $ free1 ! $ move ! (16 ∷ 17 ∷ []) $ free1 ! $ move ! (14 ∷ 15 ∷ []) $ free1 ! $ move ! (12 ∷ 13 ∷ []) $ free1 ! $ move ! (10 ∷ 11 ∷ []) $ free1 ! $ move ! (8 ∷ 9 ∷ []) $ free1 ! $ move ! (6 ∷ 7 ∷ []) $ free1 ! $ free0 ! $
+        keep ! (1 ∷ 2 ∷ 3 ∷ 0 ∷ 5 ∷ []) $ by ! (exits r (zs .1 .1 .0) (zs .1 .1 .1 .0) (is .1) (e (arraysOf h) (typed-proper h g)) l-j)))))))))))))))))))))))))
 
 module _ {M : Type 1} (𝓤 : URA M) (H : Heap 𝓤) (A : Atoms 𝓤) (W : Given 𝓤 H A) (mem : Memory → SProp 𝓤) (run : Routine → Fun 𝓤) where
   walks : (C : Calls 𝓤 H) (Λ : Loops 𝓤 H) → FmC 𝓤 H (W .laws) C → Triple 𝓤 (C #by) (By 𝓤 H A mem run) → Walks 𝓤 H A f.ended stayed (WpFn 𝓤 H C Λ code.function) (f.clauses 𝓤 H A mem run)

@@ -58,24 +58,24 @@ use Rattle.direct.proofs.kp_device_fresh.Statement as stated
 use Rattle.direct.proofs.kp_device_fresh.Code as code
 
 abbrev stayed : Stays (f.ended .signature .params) (f.ended .kept)
-stayed = (stay-ref (0 ∷ []) tt (plain (λ _. T.the-row)), (stay-none (λ _. u32) yes, tt))
+stayed = (stay-ref (0 ∷ []) tt (plain (λ _. T.the-row)), (stay-none (λ _. u32) yes, (stay-none (λ _. u32) yes, tt)))
 
 -- the contract that the proof cites
 abbrev By : {M : Type 1} (𝓤 : URA M) (H : Heap 𝓤) (A : Atoms 𝓤) (mem : Memory → SProp 𝓤) (run : Routine → Fun 𝓤) → Contract 𝓤
 By 𝓤 H A mem run = tripleOf 𝓤 H A by′.signature (by′.spec 𝓤 H A mem run)
 
-module _ {M : Type 1} (𝓤 : URA M) (H : Heap 𝓤) (A : Atoms 𝓤) (W : Given 𝓤 H A) (at-mem : Memory → SProp 𝓤) (run : Routine → Fun 𝓤) (κ0 : Lft) (bounds : AllOutlive 1 (f.signature .outlives) (κ0, tt)) (q0 : Share) (b o : ℕ) (γ : GName) (h : Device) (n : ℕ) (n-fits : n < 2 ^ 32) where
+module _ {M : Type 1} (𝓤 : URA M) (H : Heap 𝓤) (A : Atoms 𝓤) (W : Given 𝓤 H A) (at-mem : Memory → SProp 𝓤) (run : Routine → Fun 𝓤) (κ0 : Lft) (bounds : AllOutlive 1 (f.signature .outlives) (κ0, tt)) (q0 : Share) (b o : ℕ) (γ : GName) (h : Device) (n : ℕ) (n-fits : n < 2 ^ 32) (m : ℕ) (m-fits : m < 2 ^ 32) where
   abbrev Arg : Type 0
-  Arg = RefT Device × (ℕ × Unit {0})
+  Arg = RefT Device × (ℕ × (ℕ × Unit {0}))
 
   abbrev a : Arg
-  a = (record { ptr = (b, o); name = γ; now = h }, (n, tt))
+  a = (record { ptr = (b, o); name = γ; now = h }, (n, (m, tt)))
 
   abbrev Vals : Type 0
-  Vals = List Val × (List Val × Unit {0})
+  Vals = List Val × (List Val × (List Val × Unit {0}))
 
   abbrev vals : Vals
-  vals = (vptr b o ∷ [], (vint w32 n ∷ [], tt))
+  vals = (vptr b o ∷ [], (vint w32 n ∷ [], (vint w32 m ∷ [], tt)))
 
   -- a device in memory
   abbrev mach : Device → Val
@@ -86,63 +86,63 @@ module _ {M : Type 1} (𝓤 : URA M) (H : Heap 𝓤) (A : Atoms 𝓤) (W : Given
 
   -- what the callee's triple binds outside: the slices' own lifetimes, shares and values
   abbrev to-by : By 𝓤 H A at-mem run .Ghost
-  to-by = ((tt, tt, tt, (h, (n, tt)), (mach h ∷ [], (vint w32 n ∷ [], tt))), tt)
+  to-by = ((tt, tt, tt, (h, (n, (m, tt))), (mach h ∷ [], (vint w32 n ∷ [], (vint w32 m ∷ [], tt)))), tt)
 
   goes : ent 𝓤 (⋆ 𝓤 H A ((‵ ftrue) ∷ ‵ (T.the-row .own h (mach h ∷ [])) ∷ [])) (By 𝓤 H A at-mem run .pre to-by)
-  goes = qed W ((‵ ftrue) ∷ ‵ (T.the-row .own h (mach h ∷ [])) ∷ []) ∵ nothing ! $ owned ! u32 (Is u32) (uint-makes 𝓤 H A W w32) n _ (refl, n-fits) $ fjoin ! $ move ! (2 ∷ 0 ∷ []) $ fjoin ! $ move ! (1 ∷ 0 ∷ []) $ join ! $ frame ! $ done !
+  goes = qed W ((‵ ftrue) ∷ ‵ (T.the-row .own h (mach h ∷ [])) ∷ []) ∵ nothing ! $ owned ! u32 (Is u32) (uint-makes 𝓤 H A W w32) m _ (refl, m-fits) $ fjoin ! $ owned ! u32 (Is u32) (uint-makes 𝓤 H A W w32) n _ (refl, n-fits) $ fjoin ! $ move ! (2 ∷ 0 ∷ []) $ fjoin ! $ move ! (1 ∷ 0 ∷ []) $ join ! $ frame ! $ done !
 
   abbrev Said : Entered → Type 0
-  Said r = left (r .answer) (view (r .device)) [] [] [] ≡ freshBy (view h) n
+  Said r = left (r .answer) (view (r .device)) [] [] [] ≡ freshBy (view h) n m
 
   exits : (r : Entered) → r .answer < 2 ^ 64 → Said r
       → ent 𝓤 (⋆ 𝓤 H A (‵ (fobs γ (T.the-row .coded .code (r .device))) ∷ ‵ (fbor κ0 (Body (mem T.the-row) b o γ)) ∷ ‵ (flft κ0 q0) ∷ (‵ ftrue) ∷ [])) (Post (vint w64 (r .answer)))
   exits r fits e =
       qed W (‵ (fobs γ (T.the-row .coded .code (r .device))) ∷ ‵ (fbor κ0 (Body (mem T.the-row) b o γ)) ∷ ‵ (flft κ0 q0) ∷ (‵ ftrue) ∷ []) ∵
-      suffices ! _ (ends-at 𝓤 H A f.ended stayed (f.clauses 𝓤 H A at-mem run) W (((κ0, tt), (q0, tt), bounds, a, vals), tt) (vint w64 (r .answer)) (r .answer) (r .device, (tt, tt)) (tt, (tt, tt))) $ says ! e $
-      move ! (2 ∷ 3 ∷ []) $ join ! $ frame ! $ feqI ! (List Val) (vptr b o ∷ []) (vptr b o ∷ []) refl $ fjoin3 ! $ nothing ! $ owned ! u32 (Is u32) (uint-makes 𝓤 H A W w32) n _ (refl, n-fits) $ fjoin ! $ move ! (1 ∷ 0 ∷ []) $ fjoin ! $ frame ! $ owned ! u64 (Is u64) (uint-makes 𝓤 H A W w64) (r .answer) _ (refl, fits) $ done !
+      suffices ! _ (ends-at 𝓤 H A f.ended stayed (f.clauses 𝓤 H A at-mem run) W (((κ0, tt), (q0, tt), bounds, a, vals), tt) (vint w64 (r .answer)) (r .answer) (r .device, (tt, (tt, tt))) (tt, (tt, (tt, tt)))) $ says ! e $
+      move ! (2 ∷ 3 ∷ []) $ join ! $ frame ! $ feqI ! (List Val) (vptr b o ∷ []) (vptr b o ∷ []) refl $ fjoin3 ! $ nothing ! $ owned ! u32 (Is u32) (uint-makes 𝓤 H A W w32) m _ (refl, m-fits) $ fjoin ! $ owned ! u32 (Is u32) (uint-makes 𝓤 H A W w32) n _ (refl, n-fits) $ fjoin ! $ move ! (1 ∷ 0 ∷ []) $ fjoin ! $ frame ! $ owned ! u64 (Is u64) (uint-makes 𝓤 H A W w64) (r .answer) _ (refl, fits) $ done !
 
   module _ (C : Calls 𝓤 H) (Λ : Loops 𝓤 H) (fm : FmC 𝓤 H (W .laws) C) (known : Triple 𝓤 (C #by) (By 𝓤 H A at-mem run)) where
-    walk : ent 𝓤 (onEntry 𝓤 H A f.signature (κ0, tt) (q0, tt) a vals) (WpFn 𝓤 H C Λ code.function (vptr b o ∷ vint w32 n ∷ []) Post)
+    walk : ent 𝓤 (onEntry 𝓤 H A f.signature (κ0, tt) (q0, tt) a vals) (WpFn 𝓤 H C Λ code.function (vptr b o ∷ vint w32 n ∷ vint w32 m ∷ []) Post)
     walk =
-        qed W ((‵ (flft κ0 q0) ⊛ ‵ ftrue) ∷ ‵ (owns (MutRef (named 0) κ0 T.the-row ∷ u32 ∷ []) a vals) ∷ []) ∵ enter ! C Λ code.function (vptr b o ∷ vint w32 n ∷ []) _ $
-        alloc1 ! (λ l0. alloc1 ! (λ l1. alloc1 ! (λ l2. alloc1 ! (λ l3. alloc1 ! (λ l4. alloc0 ! $ params1 ! $
-        pass1 ! (init ! 6 refl (tt, tt)) $ pass1 ! (init ! 4 refl (tt, record { fits = n-fits })) $ pass0 ! $
+        qed W ((‵ (flft κ0 q0) ⊛ ‵ ftrue) ∷ ‵ (owns (MutRef (named 0) κ0 T.the-row ∷ u32 ∷ u32 ∷ []) a vals) ∷ []) ∵ enter ! C Λ code.function (vptr b o ∷ vint w32 n ∷ vint w32 m ∷ []) _ $
+        alloc1 ! (λ l0. alloc1 ! (λ l1. alloc1 ! (λ l2. alloc1 ! (λ l3. alloc1 ! (λ l4. alloc1 ! (λ l5. alloc0 ! $ params1 ! $
+        pass1 ! (init ! 8 refl (tt, tt)) $ pass1 ! (init ! 6 refl (tt, record { fits = n-fits })) $ pass1 ! (init ! 4 refl (tt, record { fits = m-fits })) $ pass0 ! $
         -- the borrow of the device is opened
-        move ! (11 ∷ []) $ fsplit ! $ fsplit3 ! $ drop ! $ move ! (13 ∷ []) $ split ! $ move ! (2 ∷ 3 ∷ 0 ∷ []) $
+        move ! (13 ∷ []) $ fsplit ! $ fsplit3 ! $ drop ! $ move ! (15 ∷ []) $ split ! $ move ! (2 ∷ 3 ∷ 0 ∷ []) $
         opens ! tt T.the-row {h = h} b o (λ vs. spelt ! T.the-row (Is T.the-row) (shows 𝓤 H A T.the-row) (LL.vals T.the-type T′.the-laws) (LL.tells T.the-type T′.the-laws) fullShare h vs b o $
         use1 W (‵ (fat fullShare T′.mir b o (mach h))) (W .laws .raw-at fullShare T′.mir b o (mach h)) $
         move ! (1 ∷ []) $ peeks ! T.the-row (Is T.the-row) (shows 𝓤 H A T.the-row) h (mach h ∷ []) (λ g. move ! (1 ∷ 0 ∷ []) $
-        -- [the device's cell; what a Device owns; the open borrow; obs; auth; the other tokens; what the other parameters own; _4; …; _1; …; room for _0; …]
-        assigns ! (of-opd ! (load ! (from ! (hop ! (look ! 13 refl) (stop !))) (look-in ! 0 (whole !)))) (from ! (stop !)) (init ! 7 refl (LL.lawful T.the-type T′.the-laws 𝓤 H A W .typed h _ g .0)) $
-        move ! (6 ∷ []) $ fsplit ! $ drop ! $ drop ! $ move ! (5 ∷ 1 ∷ []) $
+        -- [the device's cell; what a Device owns; the open borrow; obs; auth; the other tokens; what the other parameters own; _5; …; _1; …; room for _0; …]
+        assigns ! (of-opd ! (load ! (from ! (hop ! (look ! 15 refl) (stop !))) (look-in ! 0 (whole !)))) (from ! (stop !)) (init ! 7 refl (LL.lawful T.the-type T′.the-laws 𝓤 H A W .typed h _ g .0)) $
+        move ! (6 ∷ []) $ fsplit ! $ drop ! $ fsplit ! $ drop ! $ drop ! $ move ! (5 ∷ 1 ∷ []) $
         use2 W (raw (By 𝓤 H A at-mem run .pre to-by)) goes $
-        -- [what the callee asks; the device's cell; the open borrow; obs; auth; _4; …]
-        calls-at ! fm (By 𝓤 H A at-mem run) known to-by (and-then ! (load ! (from ! (stop !)) (look ! 5 refl)) (and-then ! (load ! (from ! (stop !)) (look ! 9 refl)) (no-more !))) (λ w.
-        use1 W (later (some (λ (r : Entered). ((‵ ftrue) ⊛ ‵ (E.the-row .own r (w ∷ []))) ⊛ raw (ensured 𝓤 H A by′.ended (by′.clauses 𝓤 H A at-mem run) tt (h, (n, tt)) tt r)))) (id⊢ 𝓤 _) $ await ! tt $ pick ! (λ r.
+        -- [what the callee asks; the device's cell; the open borrow; obs; auth; _5; …]
+        calls-at ! fm (By 𝓤 H A at-mem run) known to-by (and-then ! (load ! (from ! (stop !)) (look ! 5 refl)) (and-then ! (load ! (from ! (stop !)) (look ! 11 refl)) (and-then ! (load ! (from ! (stop !)) (look ! 9 refl)) (no-more !)))) (λ w.
+        use1 W (later (some (λ (r : Entered). ((‵ ftrue) ⊛ ‵ (E.the-row .own r (w ∷ []))) ⊛ raw (ensured 𝓤 H A by′.ended (by′.clauses 𝓤 H A at-mem run) tt (h, (n, (m, tt))) tt r)))) (id⊢ 𝓤 _) $ await ! tt $ pick ! (λ r.
         -- what the callee ensures, at some last lists
-        split ! $ move ! (1 ∷ []) $ use1 W (some (λ (zs : Unit {0} × (Unit {0} × Unit {0})). ‵ (lasts by′.ended tt (h, (n, tt)) zs) ⊛ raw (fact 𝓤 (Said r)))) (id⊢ 𝓤 _) $ pick ! (λ zs.
-        split ! $ move ! (1 ∷ []) $ heard ! (Said r) (λ e. fsplit ! $ drop ! $ fsplit ! $ drop ! $ drop ! $
+        split ! $ move ! (1 ∷ []) $ use1 W (some (λ (zs : Unit {0} × (Unit {0} × (Unit {0} × Unit {0}))). ‵ (lasts by′.ended tt (h, (n, (m, tt))) zs) ⊛ raw (fact 𝓤 (Said r)))) (id⊢ 𝓤 _) $ pick ! (λ zs.
+        split ! $ move ! (1 ∷ []) $ heard ! (Said r) (λ e. fsplit ! $ drop ! $ fsplit ! $ drop ! $ fsplit ! $ drop ! $ drop ! $
         move ! (0 ∷ []) $ split ! $ move ! (1 ∷ []) $ peeks ! E.the-row (Is E.the-row) (shows 𝓤 H A E.the-row) r (w ∷ []) (λ is.
-        -- [what the answer owns; the tokens; the last lists; the device's cell; the open borrow; obs; auth; _4; …]
-        land ! (from ! (stop !)) (init ! 8 refl (LL.lawful E.the-type E′.the-laws 𝓤 H A W .typed r _ is .0)) $ rewrite ! 8 (λ (z : Val). ‵ (fat fullShare E′.mir l3 0 z)) (ap only (LL.tells E.the-type E′.the-laws r _ is)) refl $
-        assigns ! (of-opd ! (load ! (from ! (fld ! refl (stop !))) (look-in ! 8 (sub ! 1 refl (whole !))))) (from ! (hop ! (look ! 12 refl) (stop !))) (store ! 2 refl (LL.lawful T.the-type T′.the-laws 𝓤 H A W .typed (r .device) _ (LL.owed E.the-type E′.the-laws r _ is .1 .0) .0)) $
-        assigns ! (of-opd ! (load ! (from ! (fld ! refl (stop !))) (look-in ! 8 (sub ! 0 refl (whole !))))) (from ! (stop !)) (init ! 14 refl (tt, record { fits = LL.owed E.the-type E′.the-laws r _ is .0 .1 })) $
+        -- [what the answer owns; the tokens; the last lists; the device's cell; the open borrow; obs; auth; _5; …]
+        land ! (from ! (stop !)) (init ! 8 refl (LL.lawful E.the-type E′.the-laws 𝓤 H A W .typed r _ is .0)) $ rewrite ! 8 (λ (z : Val). ‵ (fat fullShare E′.mir l4 0 z)) (ap only (LL.tells E.the-type E′.the-laws r _ is)) refl $
+        assigns ! (of-opd ! (load ! (from ! (fld ! refl (stop !))) (look-in ! 8 (sub ! 1 refl (whole !))))) (from ! (hop ! (look ! 14 refl) (stop !))) (store ! 2 refl (LL.lawful T.the-type T′.the-laws 𝓤 H A W .typed (r .device) _ (LL.owed E.the-type E′.the-laws r _ is .1 .0) .0)) $
+        assigns ! (of-opd ! (load ! (from ! (fld ! refl (stop !))) (look-in ! 8 (sub ! 0 refl (whole !))))) (from ! (stop !)) (init ! 16 refl (tt, record { fits = LL.owed E.the-type E′.the-laws r _ is .0 .1 })) $
         -- the borrow is closed at the new device
         owned ! T.the-row (Is T.the-row) ((LL.makes T.the-type T′.the-plain) 𝓤 H A) (r .device) _ (LL.owed E.the-type E′.the-laws r _ is .1 .0) $ move ! (3 ∷ 0 ∷ 4 ∷ 5 ∷ 6 ∷ []) $ use1 W (‵ (cellAt fullShare (T.the-row .mir) (mach (r .device) ∷ []) b o)) (W .laws .at-raw fullShare T′.mir b o (mach (r .device))) $ closes ! tt T.the-row (r .device) (mach (r .device) ∷ []) b o $
-        returns ! (look ! 13 refl) $ forget ! 5 refl $ forget ! 7 refl $ forget ! 9 refl $ forget ! 11 refl $ forget ! 13 refl $
-        move ! (13 ∷ 14 ∷ []) $ free1 ! $ move ! (11 ∷ 12 ∷ []) $ free1 ! $ move ! (9 ∷ 10 ∷ []) $ free1 ! $ move ! (7 ∷ 8 ∷ []) $ free1 ! $ move ! (5 ∷ 6 ∷ []) $ free1 ! $ free0 ! $
-        keep ! (0 ∷ 1 ∷ 2 ∷ 4 ∷ []) $ by ! (exits r (LL.owed E.the-type E′.the-laws r _ is .0 .1) e)))))))))))))
+        returns ! (look ! 15 refl) $ forget ! 5 refl $ forget ! 7 refl $ forget ! 9 refl $ forget ! 11 refl $ forget ! 13 refl $ forget ! 15 refl $
+        move ! (15 ∷ 16 ∷ []) $ free1 ! $ move ! (13 ∷ 14 ∷ []) $ free1 ! $ move ! (11 ∷ 12 ∷ []) $ free1 ! $ move ! (9 ∷ 10 ∷ []) $ free1 ! $ move ! (7 ∷ 8 ∷ []) $ free1 ! $ move ! (5 ∷ 6 ∷ []) $ free1 ! $ free0 ! $
+        keep ! (0 ∷ 1 ∷ 2 ∷ 4 ∷ []) $ by ! (exits r (LL.owed E.the-type E′.the-laws r _ is .0 .1) e))))))))))))))
 
 module _ {M : Type 1} (𝓤 : URA M) (H : Heap 𝓤) (A : Atoms 𝓤) (W : Given 𝓤 H A) (mem : Memory → SProp 𝓤) (run : Routine → Fun 𝓤) where
   walks : (C : Calls 𝓤 H) (Λ : Loops 𝓤 H) → FmC 𝓤 H (W .laws) C → Triple 𝓤 (C #by) (By 𝓤 H A mem run) → Walks 𝓤 H A f.ended stayed (WpFn 𝓤 H C Λ code.function) (f.clauses 𝓤 H A mem run)
   walks C Λ fm known = walked 𝓤 H A f.ended stayed (f.clauses 𝓤 H A mem run) (WpFn 𝓤 H C Λ code.function)
-      (λ κs. (ptr-vals, (uint-vals w32, tt))) (λ κs. (mut-tells (named 0) (κs .0) T.the-row, (uint-tells w32, tt)))
-      (λ κs qs bounds a _ are. via 𝓤 _ (fst∗ 𝓤 _ (emp 𝓤)) (walk 𝓤 H A W mem run (κs .0) bounds (qs .0) (a .0 .ptr .0) (a .0 .ptr .1) (a .0 .name) (a .0 .now) (a .1 .0) (are .1 .0 .1) C Λ fm known))
+      (λ κs. (ptr-vals, (uint-vals w32, (uint-vals w32, tt)))) (λ κs. (mut-tells (named 0) (κs .0) T.the-row, (uint-tells w32, (uint-tells w32, tt))))
+      (λ κs qs bounds a _ are. via 𝓤 _ (fst∗ 𝓤 _ (emp 𝓤)) (walk 𝓤 H A W mem run (κs .0) bounds (qs .0) (a .0 .ptr .0) (a .0 .ptr .1) (a .0 .name) (a .0 .now) (a .1 .0) (are .1 .0 .1) (a .1 .1 .0) (are .1 .1 .0 .1) C Λ fm known))
 
 meets : {M : Type 1} (𝓤 : URA M) (H : Heap 𝓤) (A : Atoms 𝓤) → Given 𝓤 H A → (mem : Memory → SProp 𝓤) (run : Routine → Fun 𝓤) (𝓣 : Tables 𝓤 H) → Triple 𝓤 (𝓣 .C #by) (By 𝓤 H A mem run)
     → Meets 𝓤 H A f.signature (WpFn 𝓤 H (𝓣 .C) (𝓣 .Λ) code.function) (f.spec 𝓤 H A mem run)
 meets 𝓤 H A W mem run 𝓣 known =
-    walk-meets 𝓤 H A f.ended stayed W (goes-ref 𝓤 H A W 1 0 tt (plain (λ _. T.the-row)), (goes-none 𝓤 H A W 1 (λ _. u32) yes (λ κs x f. refl), tt)) (f.clauses 𝓤 H A mem run)
+    walk-meets 𝓤 H A f.ended stayed W (goes-ref 𝓤 H A W 1 0 tt (plain (λ _. T.the-row)), (goes-none 𝓤 H A W 1 (λ _. u32) yes (λ κs x f. refl), (goes-none 𝓤 H A W 1 (λ _. u32) yes (λ κs x f. refl), tt))) (f.clauses 𝓤 H A mem run)
     (WpFn 𝓤 H (𝓣 .C) (𝓣 .Λ) code.function) (WpFn-mono 𝓤 H (W .laws) 𝓣 code.function) (walks 𝓤 H A W mem run (𝓣 .C) (𝓣 .Λ) (fmOf 𝓤 H (W .laws) 𝓣) known)
 
 pub kp-device-fresh-spec : {M : Type 1} → stated.statement M

@@ -51,9 +51,9 @@ use Rattle.rules.specs.declared.Device.{Device}
 use Rattle.rules.proofs.Device as T
 use Rattle.rules.proofs.Device.Laws as T′
 use Rattle.rules.proofs.Each.{typed-proper}
-use Rattle.act.specs.declared.Core.{Core}
-use Rattle.act.proofs.Core as K
-use Rattle.act.proofs.Core.Laws as K′
+use Rattle.direct.specs.declared.Short.{Short}
+use Rattle.direct.proofs.Short as K
+use Rattle.direct.proofs.Short.Laws as K′
 use Rattle.rules.specs.Calls.{pending as pendingCall}
 use Rattle.act.specs.Parts.{Arrays, arraysOf, counted}
 use Rattle.rules.specs.View.{view}
@@ -100,22 +100,22 @@ module _ {M : Type 1} (𝓤 : URA M) (H : Heap 𝓤) (A : Atoms 𝓤) (W : Given
   abbrev Post : Val → SProp 𝓤
   Post = walkOf 𝓤 H A f.ended stayed (f.clauses 𝓤 H A at-mem run) .post (((κ0, (κ1, tt)), (q0, (q1, tt)), bounds, a, vals), tt)
 
-  -- its core
-  abbrev k : Core
-  k = record { scalars = h .scalars; controllers = h .controllers; «ignore_masks» = h .«ignore_masks» }
+  -- what is copied of it
+  abbrev k : Short
+  k = record { scalars = h .scalars; controllers = h .controllers; «ignore_masks» = h .«ignore_masks»; chip = h .chip }
 
   abbrev mach-k : Val
   mach-k = LL.tuple-val K.the-type K′.the-laws (K.the-type .to k)
 
   core-is : Is T.the-row h (mach h ∷ []) → Is K.the-row k (mach-k ∷ [])
-  core-is g = let is = LL.owed T.the-type T′.the-laws h _ g in LL.owes K.the-type K′.the-laws k (is .0, (is .1 .1 .1 .1 .1 .1 .0, (is .1 .1 .1 .1 .1 .1 .1 .0, tt)))
+  core-is g = let is = LL.owed T.the-type T′.the-laws h _ g in LL.owes K.the-type K′.the-laws k (is .0, (is .1 .1 .1 .1 .1 .1 .1 .0, (is .1 .1 .1 .1 .1 .1 .1 .1 .0, (is .1 .1 .1 .1 .1 .1 .1 .1 .1 .0, tt))))
 
   -- the device with other lists in these fields; and with what was handed back
   abbrev left-in : List ℕ → Device
-  left-in zs-pending = record { scalars = h .scalars; table = h .table; busy = h .busy; majors = h .majors; taken = h .taken; pending = zs-pending; controllers = h .controllers; «ignore_masks» = h .«ignore_masks» }
+  left-in zs-pending = record { scalars = h .scalars; table = h .table; busy = h .busy; majors = h .majors; taken = h .taken; pending = zs-pending; priorities = h .priorities; controllers = h .controllers; «ignore_masks» = h .«ignore_masks»; chip = h .chip }
 
   abbrev ended : Fed → List ℕ → Device
-  ended r zs-pending = record { scalars = r .scalars; table = h .table; busy = h .busy; majors = h .majors; taken = h .taken; pending = zs-pending; controllers = r .controllers; «ignore_masks» = h .«ignore_masks» }
+  ended r zs-pending = record { scalars = r .scalars; table = h .table; busy = h .busy; majors = h .majors; taken = h .taken; pending = zs-pending; priorities = h .priorities; controllers = r .controllers; «ignore_masks» = h .«ignore_masks»; chip = h .chip }
 
   abbrev x-pending : GName → RefT (List ℕ)
   x-pending γ′ = record { ptr = (b, o + 4680); name = γ′; now = h .pending }
@@ -135,7 +135,7 @@ module _ {M : Type 1} (𝓤 : URA M) (H : Heap 𝓤) (A : Atoms 𝓤) (W : Given
 
   -- what closing the borrow asks: of each field, what the answer says of it, or what is known of it behind the call
   made : (r : Fed) (zs-pending : List ℕ) → Is T.the-row (left-in zs-pending) (mach (left-in zs-pending) ∷ []) → AreAll (fields E.the-type) (E.the-type .to r) (valss (fields E.the-type) (LL.spells (E.the-type .parts) E′.the-laws) (E.the-type .to r)) → Is T.the-row (ended r zs-pending) (mach (ended r zs-pending) ∷ [])
-  made r zs-pending was is = let h-is = LL.owed T.the-type T′.the-laws (left-in zs-pending) _ was in LL.owes T.the-type T′.the-laws (ended r zs-pending) (is .1 .0, (h-is .1 .0, (h-is .1 .1 .0, (h-is .1 .1 .1 .0, (h-is .1 .1 .1 .1 .0, (h-is .1 .1 .1 .1 .1 .0, (is .1 .1 .0, (h-is .1 .1 .1 .1 .1 .1 .1 .0, tt))))))))
+  made r zs-pending was is = let h-is = LL.owed T.the-type T′.the-laws (left-in zs-pending) _ was in LL.owes T.the-type T′.the-laws (ended r zs-pending) (is .1 .0, (h-is .1 .0, (h-is .1 .1 .0, (h-is .1 .1 .1 .0, (h-is .1 .1 .1 .1 .0, (h-is .1 .1 .1 .1 .1 .0, (h-is .1 .1 .1 .1 .1 .1 .0, (is .1 .1 .0, (h-is .1 .1 .1 .1 .1 .1 .1 .1 .0, (h-is .1 .1 .1 .1 .1 .1 .1 .1 .1 .0, tt))))))))))
 
   exits : (r : Fed) (zs-pending zs-j : List ℕ) → r .answer < 2 ^ 64 → Says r zs-pending zs-j → length zs-j ≡ length ys-j
       → ent 𝓤 (⋆ 𝓤 H A (‵ (fobs γ (T.the-row .coded .code (ended r zs-pending))) ∷ ‵ (fbor κ0 (Body (mem T.the-row) b o γ)) ∷ ‵ (flft κ0 q0) ∷ (‵ (flft κ1 q1) ⊛ ‵ ftrue) ∷ ‵ (finally u8 γ-j zs-j) ∷ [])) (Post (vint w64 (r .answer)))
@@ -148,48 +148,49 @@ module _ {M : Type 1} (𝓤 : URA M) (H : Heap 𝓤) (A : Atoms 𝓤) (W : Given
     walk : Room u8 (length ys-j) → ent 𝓤 (onEntry 𝓤 H A f.signature (κ0, (κ1, tt)) (q0, (q1, tt)) a vals) (WpFn 𝓤 H C Λ code.function (vptr b o ∷ vint w32 n ∷ vint w32 m ∷ s-j ∷ vint w64 u ∷ []) Post)
     walk room-j =
         qed W ((‵ (flft κ0 q0) ⊛ ‵ (flft κ1 q1) ⊛ ‵ ftrue) ∷ ‵ (owns (MutRef (named 0) κ0 T.the-row ∷ u32 ∷ u32 ∷ MutSlice (named 1) κ1 u8 ∷ u64 ∷ []) a vals) ∷ []) ∵ enter ! C Λ code.function (vptr b o ∷ vint w32 n ∷ vint w32 m ∷ s-j ∷ vint w64 u ∷ []) _ $
-        alloc1 ! (λ l0. alloc1 ! (λ l1. alloc1 ! (λ l2. alloc1 ! (λ l3. alloc1 ! (λ l4. alloc1 ! (λ l5. alloc1 ! (λ l6. alloc1 ! (λ l7. alloc1 ! (λ l8. alloc1 ! (λ l9. alloc1 ! (λ l10. alloc1 ! (λ l11. alloc1 ! (λ l12. alloc1 ! (λ l13. alloc0 ! $ params1 ! $
-        pass1 ! (init ! 24 refl (tt, tt)) $ pass1 ! (init ! 22 refl (tt, record { fits = n-fits })) $ pass1 ! (init ! 20 refl (tt, record { fits = m-fits })) $ pass1 ! (init ! 18 refl (tt, (tt, (record { fits = room-j .0 }, tt)))) $ pass1 ! (init ! 16 refl (tt, record { fits = u-fits })) $ pass0 ! $
+        alloc1 ! (λ l0. alloc1 ! (λ l1. alloc1 ! (λ l2. alloc1 ! (λ l3. alloc1 ! (λ l4. alloc1 ! (λ l5. alloc1 ! (λ l6. alloc1 ! (λ l7. alloc1 ! (λ l8. alloc1 ! (λ l9. alloc1 ! (λ l10. alloc1 ! (λ l11. alloc1 ! (λ l12. alloc1 ! (λ l13. alloc1 ! (λ l14. alloc0 ! $ params1 ! $
+        pass1 ! (init ! 26 refl (tt, tt)) $ pass1 ! (init ! 24 refl (tt, record { fits = n-fits })) $ pass1 ! (init ! 22 refl (tt, record { fits = m-fits })) $ pass1 ! (init ! 20 refl (tt, (tt, (record { fits = room-j .0 }, tt)))) $ pass1 ! (init ! 18 refl (tt, record { fits = u-fits })) $ pass0 ! $
         -- the borrow of the device is opened
-        move ! (29 ∷ []) $ fsplit ! $ fsplit3 ! $ drop ! $ move ! (31 ∷ []) $ split ! $ move ! (2 ∷ 3 ∷ 0 ∷ []) $
+        move ! (31 ∷ []) $ fsplit ! $ fsplit3 ! $ drop ! $ move ! (33 ∷ []) $ split ! $ move ! (2 ∷ 3 ∷ 0 ∷ []) $
         opens ! tt T.the-row {h = h} b o (λ vs. spelt ! T.the-row (Is T.the-row) (shows 𝓤 H A T.the-row) (LL.vals T.the-type T′.the-laws) (LL.tells T.the-type T′.the-laws) fullShare h vs b o $
         use1 W (‵ (fat fullShare T′.mir b o (mach h))) (W .laws .raw-at fullShare T′.mir b o (mach h)) $
         move ! (1 ∷ []) $ peeks ! T.the-row (Is T.the-row) (shows 𝓤 H A T.the-row) h (mach h ∷ []) (λ g. move ! (1 ∷ 0 ∷ []) $
-        -- [the device's cell; what a Device owns; the open borrow; obs; auth; the other tokens; what the other parameters own; _13; …; _1; …; room for _0; …]
-        assigns ! (of-opd ! (load ! (from ! (hop ! (look ! 31 refl) (fld ! refl (stop !)))) (look-in ! 0 (sub ! 0 refl (whole !))))) (from ! (stop !)) (init ! 17 refl (T′.the-laws .0 .lawful 𝓤 H A W .typed (T.the-type .to h .0) _ (LL.owed T.the-type T′.the-laws h _ g .0) .0)) $
-        assigns ! (of-opd ! (load ! (from ! (hop ! (look ! 31 refl) (fld ! refl (stop !)))) (look-in ! 0 (sub ! 6 refl (whole !))))) (from ! (stop !)) (init ! 15 refl (T′.the-laws .1 .1 .1 .1 .1 .1 .0 .lawful 𝓤 H A W .typed (T.the-type .to h .1 .1 .1 .1 .1 .1 .0) _ (LL.owed T.the-type T′.the-laws h _ g .1 .1 .1 .1 .1 .1 .0) .0)) $
-        assigns ! (of-opd ! (load ! (from ! (hop ! (look ! 31 refl) (fld ! refl (stop !)))) (look-in ! 0 (sub ! 7 refl (whole !))))) (from ! (stop !)) (init ! 13 refl (T′.the-laws .1 .1 .1 .1 .1 .1 .1 .0 .lawful 𝓤 H A W .typed (T.the-type .to h .1 .1 .1 .1 .1 .1 .1 .0) _ (LL.owed T.the-type T′.the-laws h _ g .1 .1 .1 .1 .1 .1 .1 .0) .0)) $
-        assigns ! (agg ! (and-then ! (load ! (from ! (stop !)) (look ! 17 refl)) (and-then ! (load ! (from ! (stop !)) (look ! 15 refl)) (and-then ! (load ! (from ! (stop !)) (look ! 13 refl)) (no-more !))))) (from ! (stop !)) (init ! 21 refl (LL.lawful K.the-type K′.the-laws 𝓤 H A W .typed k _ (core-is g) .0)) $
-        assigns ! (addr ! (from ! (hop ! (look ! 31 refl) (fld ! refl (stop !))))) (from ! (stop !)) (init ! 11 refl (tt, tt)) $
-        assigns ! (addr ! (from ! (fld ! refl (hop ! (look-in ! 25 (sub ! 0 refl (whole !))) (stop !))))) (from ! (stop !)) (init ! 9 refl (tt, tt)) $
-        assigns ! (agg ! (and-then ! (load ! (from ! (stop !)) (look ! 9 refl)) (and-then ! (load ! (from ! (fld ! refl (stop !))) (look-in ! 25 (sub ! 1 refl (whole !)))) (no-more !)))) (from ! (stop !)) (init ! 7 refl (tt, (tt, (record { fits = room-j .0 }, tt)))) $
+        -- [the device's cell; what a Device owns; the open borrow; obs; auth; the other tokens; what the other parameters own; _14; …; _1; …; room for _0; …]
+        assigns ! (of-opd ! (load ! (from ! (hop ! (look ! 33 refl) (fld ! refl (stop !)))) (look-in ! 0 (sub ! 0 refl (whole !))))) (from ! (stop !)) (init ! 19 refl (T′.the-laws .0 .lawful 𝓤 H A W .typed (T.the-type .to h .0) _ (LL.owed T.the-type T′.the-laws h _ g .0) .0)) $
+        assigns ! (of-opd ! (load ! (from ! (hop ! (look ! 33 refl) (fld ! refl (stop !)))) (look-in ! 0 (sub ! 7 refl (whole !))))) (from ! (stop !)) (init ! 17 refl (T′.the-laws .1 .1 .1 .1 .1 .1 .1 .0 .lawful 𝓤 H A W .typed (T.the-type .to h .1 .1 .1 .1 .1 .1 .1 .0) _ (LL.owed T.the-type T′.the-laws h _ g .1 .1 .1 .1 .1 .1 .1 .0) .0)) $
+        assigns ! (of-opd ! (load ! (from ! (hop ! (look ! 33 refl) (fld ! refl (stop !)))) (look-in ! 0 (sub ! 8 refl (whole !))))) (from ! (stop !)) (init ! 15 refl (T′.the-laws .1 .1 .1 .1 .1 .1 .1 .1 .0 .lawful 𝓤 H A W .typed (T.the-type .to h .1 .1 .1 .1 .1 .1 .1 .1 .0) _ (LL.owed T.the-type T′.the-laws h _ g .1 .1 .1 .1 .1 .1 .1 .1 .0) .0)) $
+        assigns ! (of-opd ! (load ! (from ! (hop ! (look ! 33 refl) (fld ! refl (stop !)))) (look-in ! 0 (sub ! 9 refl (whole !))))) (from ! (stop !)) (init ! 13 refl (T′.the-laws .1 .1 .1 .1 .1 .1 .1 .1 .1 .0 .lawful 𝓤 H A W .typed (T.the-type .to h .1 .1 .1 .1 .1 .1 .1 .1 .1 .0) _ (LL.owed T.the-type T′.the-laws h _ g .1 .1 .1 .1 .1 .1 .1 .1 .1 .0) .0)) $
+        assigns ! (agg ! (and-then ! (load ! (from ! (stop !)) (look ! 19 refl)) (and-then ! (load ! (from ! (stop !)) (look ! 17 refl)) (and-then ! (load ! (from ! (stop !)) (look ! 15 refl)) (and-then ! (load ! (from ! (stop !)) (look ! 13 refl)) (no-more !)))))) (from ! (stop !)) (init ! 23 refl (LL.lawful K.the-type K′.the-laws 𝓤 H A W .typed k _ (core-is g) .0)) $
+        assigns ! (addr ! (from ! (hop ! (look ! 33 refl) (fld ! refl (stop !))))) (from ! (stop !)) (init ! 11 refl (tt, tt)) $
+        assigns ! (addr ! (from ! (fld ! refl (hop ! (look-in ! 27 (sub ! 0 refl (whole !))) (stop !))))) (from ! (stop !)) (init ! 9 refl (tt, tt)) $
+        assigns ! (agg ! (and-then ! (load ! (from ! (stop !)) (look ! 9 refl)) (and-then ! (load ! (from ! (fld ! refl (stop !))) (look-in ! 27 (sub ! 1 refl (whole !)))) (no-more !)))) (from ! (stop !)) (init ! 7 refl (tt, (tt, (record { fits = room-j .0 }, tt)))) $
         -- the device is taken apart, and fields are lent
-        use2 W (‵ (partAt T.the-row fullShare h b o)) (cell-in 𝓤 H A W b o h) $ use1 W (‵ (Fields b o h) ⊛ raw (Back 𝓤 H A b o)) (apart 𝓤 H A W b o h) $ split ! $ fsplit ! $ move ! (1 ∷ []) $ fsplit ! $ move ! (1 ∷ []) $ fsplit ! $ move ! (1 ∷ []) $ fsplit ! $ move ! (1 ∷ []) $ fsplit ! $ move ! (1 ∷ []) $ fsplit ! $ move ! (1 ∷ []) $ fsplit ! $ move ! (1 ∷ []) $ fsplit ! $ move ! (1 ∷ []) $ drop ! $
-        rewrite ! 2 (λ (ys : List ℕ). ‵ (partAt (Array u32 64) fullShare ys b (o + 4680))) (map-id (h .pending)) refl $ move ! (2 ∷ []) $
+        use2 W (‵ (partAt T.the-row fullShare h b o)) (cell-in 𝓤 H A W b o h) $ use1 W (‵ (Fields b o h) ⊛ raw (Back 𝓤 H A b o)) (apart 𝓤 H A W b o h) $ split ! $ fsplit ! $ move ! (1 ∷ []) $ fsplit ! $ move ! (1 ∷ []) $ fsplit ! $ move ! (1 ∷ []) $ fsplit ! $ move ! (1 ∷ []) $ fsplit ! $ move ! (1 ∷ []) $ fsplit ! $ move ! (1 ∷ []) $ fsplit ! $ move ! (1 ∷ []) $ fsplit ! $ move ! (1 ∷ []) $ fsplit ! $ move ! (1 ∷ []) $ fsplit ! $ move ! (1 ∷ []) $ drop ! $
+        rewrite ! 4 (λ (ys : List ℕ). ‵ (partAt (Array u32 64) fullShare ys b (o + 4680))) (map-id (h .pending)) refl $ move ! (4 ∷ []) $
         lft-new ! tt (λ α-pending.
         move ! (1 ∷ []) $ use1 W (later (some (λ (γ-pending : GName). ‵ (MutRef (named 0) (α-pending ∷ []) (Array u32 64) .own (x-pending γ-pending) (vptr b (o + 4680) ∷ [])) ⊛ ‵ (flent (α-pending ∷ []) (Body (mem (Array u32 64)) b (o + 4680) γ-pending))))) (lends-ref 𝓤 H A W (Array u32 64) (named 0) (α-pending ∷ []) (h .pending) b (o + 4680)) $ await ! tt $ pick ! (λ γ-pending. split ! $
-        move ! (15 ∷ []) $ fsplit ! $ drop ! $ fsplit ! $ drop ! $ fsplit ! $ move ! (1 ∷ []) $ fsplit ! $ drop ! $ drop ! $ move ! (15 ∷ []) $ split ! $ join ! $ move ! (4 ∷ 0 ∷ []) $ join ! $ move ! (2 ∷ 1 ∷ []) $ join ! $ move ! (1 ∷ 0 ∷ []) $ join ! $
+        move ! (17 ∷ []) $ fsplit ! $ drop ! $ fsplit ! $ drop ! $ fsplit ! $ move ! (1 ∷ []) $ fsplit ! $ drop ! $ drop ! $ move ! (17 ∷ []) $ split ! $ join ! $ move ! (4 ∷ 0 ∷ []) $ join ! $ move ! (2 ∷ 1 ∷ []) $ join ! $ move ! (1 ∷ 0 ∷ []) $ join ! $
         use1 W (raw (By 𝓤 H A at-mem run .pre (to-by α-pending γ-pending))) (goes α-pending γ-pending (core-is g)) $
-        calls-at ! fm (By 𝓤 H A at-mem run) known (to-by α-pending γ-pending) (and-then ! (load ! (from ! (stop !)) (look ! 27 refl)) (and-then ! (load ! (from ! (stop !)) (look ! 35 refl)) (and-then ! (load ! (from ! (stop !)) (look ! 33 refl)) (and-then ! (load ! (from ! (stop !)) (look ! 17 refl)) (and-then ! (load ! (from ! (stop !)) (look ! 13 refl)) (and-then ! (load ! (from ! (stop !)) (look ! 29 refl)) (no-more !))))))) (λ w.
+        calls-at ! fm (By 𝓤 H A at-mem run) known (to-by α-pending γ-pending) (and-then ! (load ! (from ! (stop !)) (look ! 31 refl)) (and-then ! (load ! (from ! (stop !)) (look ! 39 refl)) (and-then ! (load ! (from ! (stop !)) (look ! 37 refl)) (and-then ! (load ! (from ! (stop !)) (look ! 19 refl)) (and-then ! (load ! (from ! (stop !)) (look ! 15 refl)) (and-then ! (load ! (from ! (stop !)) (look ! 33 refl)) (no-more !))))))) (λ w.
         use1 W (later (some (λ (r : Fed). ((‵ (flft (α-pending ∷ []) fullShare) ⊛ ‵ (flft κ1 q1) ⊛ ‵ ftrue) ⊛ ‵ (E.the-row .own r (w ∷ []))) ⊛ raw (ensured 𝓤 H A by′.ended (by′.clauses 𝓤 H A at-mem run) ((α-pending ∷ []), (κ1, tt)) (k, (n, (m, (x-pending γ-pending, (x-j, (u, tt)))))) tt r)))) (id⊢ 𝓤 _) $ await ! tt $ pick ! (λ r.
         -- what the callee ensures, at some last lists
         split ! $ move ! (1 ∷ []) $ use1 W (some (λ (zs : Unit {0} × (Unit {0} × (Unit {0} × (List ℕ × (List ℕ × (Unit {0} × Unit {0})))))). ‵ (lasts by′.ended ((α-pending ∷ []), (κ1, tt)) (k, (n, (m, (x-pending γ-pending, (x-j, (u, tt)))))) zs) ⊛ raw (fact 𝓤 (Said r (zs .1 .1 .1 .0) (zs .1 .1 .1 .1 .0))))) (id⊢ 𝓤 _) $ pick ! (λ zs.
         split ! $ move ! (1 ∷ []) $ heard ! (Said r (zs .1 .1 .1 .0) (zs .1 .1 .1 .1 .0)) (λ e.
         fsplit ! $ drop ! $ fsplit ! $ drop ! $ fsplit ! $ drop ! $ fsplit ! $ move ! (1 ∷ []) $ fsplit ! $ fsplit ! $ move ! (1 ∷ []) $ feqL ! (λ l-j.
         move ! (1 ∷ []) $ fsplit ! $ drop ! $ drop ! $ move ! (2 ∷ []) $ split ! $ move ! (1 ∷ []) $ peeks ! E.the-row (Is E.the-row) (shows 𝓤 H A E.the-row) r (w ∷ []) (λ is.
-        land ! (from ! (stop !)) (init ! 28 refl (LL.lawful E.the-type E′.the-laws 𝓤 H A W .typed r _ is .0)) $ rewrite ! 28 (λ (z : Val). ‵ (fat fullShare E′.mir l7 0 z)) (ap only (LL.tells E.the-type E′.the-laws r _ is)) refl $
+        land ! (from ! (stop !)) (init ! 32 refl (LL.lawful E.the-type E′.the-laws 𝓤 H A W .typed r _ is .0)) $ rewrite ! 32 (λ (z : Val). ‵ (fat fullShare E′.mir l7 0 z)) (ap only (LL.tells E.the-type E′.the-laws r _ is)) refl $
         -- the loans end, and the fields come back at their last lists
         move ! (1 ∷ []) $ split ! $ move ! (1 ∷ []) $ split ! $ move ! (2 ∷ []) $ lft-end ! tt $ move ! (0 ∷ 6 ∷ 5 ∷ []) $ use3 W (later (‵ (partAt (Array u32 64) fullShare (zs .1 .1 .1 .0) b (o + 4680)))) (ref-back 𝓤 H A W (Array u32 64) (α-pending ∷ []) γ-pending (zs .1 .1 .1 .0) b (o + 4680)) $ await ! tt $ rewrite ! 0 (λ (ys : List ℕ). ‵ (partAt (Array u32 64) fullShare ys b (o + 4680))) (sym (map-id (zs .1 .1 .1 .0))) refl $
-        nothing ! $ move ! (6 ∷ 0 ∷ []) $ fjoin ! $ move ! (6 ∷ 0 ∷ []) $ fjoin ! $ move ! (1 ∷ 0 ∷ []) $ fjoin ! $ move ! (5 ∷ 0 ∷ []) $ fjoin ! $ move ! (5 ∷ 0 ∷ []) $ fjoin ! $ move ! (5 ∷ 0 ∷ []) $ fjoin ! $ move ! (5 ∷ 0 ∷ []) $ fjoin ! $ move ! (5 ∷ 0 ∷ []) $ fjoin ! $ move ! (0 ∷ 5 ∷ []) $ use2 W (‵ (partAt T.the-row fullShare (left-in (zs .1 .1 .1 .0)) b o)) (together 𝓤 H A W b o (left-in (zs .1 .1 .1 .0))) $ use1 W (‵ (fat fullShare T′.mir b o (mach (left-in (zs .1 .1 .1 .0)))) ⊛ ‵ (T.the-row .own (left-in (zs .1 .1 .1 .0)) (mach (left-in (zs .1 .1 .1 .0)) ∷ []))) (cell-out 𝓤 H A W b o (left-in (zs .1 .1 .1 .0))) $ split ! $ move ! (1 ∷ []) $ peeks ! T.the-row (Is T.the-row) (shows 𝓤 H A T.the-row) (left-in (zs .1 .1 .1 .0)) (mach (left-in (zs .1 .1 .1 .0)) ∷ []) (λ g′.
+        nothing ! $ move ! (6 ∷ 0 ∷ []) $ fjoin ! $ move ! (6 ∷ 0 ∷ []) $ fjoin ! $ move ! (6 ∷ 0 ∷ []) $ fjoin ! $ move ! (6 ∷ 0 ∷ []) $ fjoin ! $ move ! (1 ∷ 0 ∷ []) $ fjoin ! $ move ! (5 ∷ 0 ∷ []) $ fjoin ! $ move ! (5 ∷ 0 ∷ []) $ fjoin ! $ move ! (5 ∷ 0 ∷ []) $ fjoin ! $ move ! (5 ∷ 0 ∷ []) $ fjoin ! $ move ! (5 ∷ 0 ∷ []) $ fjoin ! $ move ! (0 ∷ 5 ∷ []) $ use2 W (‵ (partAt T.the-row fullShare (left-in (zs .1 .1 .1 .0)) b o)) (together 𝓤 H A W b o (left-in (zs .1 .1 .1 .0))) $ use1 W (‵ (fat fullShare T′.mir b o (mach (left-in (zs .1 .1 .1 .0)))) ⊛ ‵ (T.the-row .own (left-in (zs .1 .1 .1 .0)) (mach (left-in (zs .1 .1 .1 .0)) ∷ []))) (cell-out 𝓤 H A W b o (left-in (zs .1 .1 .1 .0))) $ split ! $ move ! (1 ∷ []) $ peeks ! T.the-row (Is T.the-row) (shows 𝓤 H A T.the-row) (left-in (zs .1 .1 .1 .0)) (mach (left-in (zs .1 .1 .1 .0)) ∷ []) (λ g′.
         drop ! $
-        assigns ! (of-opd ! (load ! (from ! (fld ! refl (stop !))) (look-in ! 20 (sub ! 1 refl (whole !))))) (from ! (hop ! (look ! 32 refl) (fld ! refl (stop !)))) (store-in ! 0 (sub ! 0 refl (whole !)) (E′.the-laws .1 .0 .lawful 𝓤 H A W .typed (E.the-type .to r .1 .0) _ (LL.owed E.the-type E′.the-laws r _ is .1 .0) .0)) $
-        assigns ! (of-opd ! (load ! (from ! (fld ! refl (stop !))) (look-in ! 20 (sub ! 2 refl (whole !))))) (from ! (hop ! (look ! 32 refl) (fld ! refl (stop !)))) (store-in ! 0 (sub ! 6 refl (whole !)) (E′.the-laws .1 .1 .0 .lawful 𝓤 H A W .typed (E.the-type .to r .1 .1 .0) _ (LL.owed E.the-type E′.the-laws r _ is .1 .1 .0) .0)) $
-        assigns ! (of-opd ! (load ! (from ! (fld ! refl (stop !))) (look-in ! 20 (sub ! 0 refl (whole !))))) (from ! (stop !)) (init ! 34 refl (tt, record { fits = LL.owed E.the-type E′.the-laws r _ is .0 .1 })) $
+        assigns ! (of-opd ! (load ! (from ! (fld ! refl (stop !))) (look-in ! 22 (sub ! 1 refl (whole !))))) (from ! (hop ! (look ! 34 refl) (fld ! refl (stop !)))) (store-in ! 0 (sub ! 0 refl (whole !)) (E′.the-laws .1 .0 .lawful 𝓤 H A W .typed (E.the-type .to r .1 .0) _ (LL.owed E.the-type E′.the-laws r _ is .1 .0) .0)) $
+        assigns ! (of-opd ! (load ! (from ! (fld ! refl (stop !))) (look-in ! 22 (sub ! 2 refl (whole !))))) (from ! (hop ! (look ! 34 refl) (fld ! refl (stop !)))) (store-in ! 0 (sub ! 7 refl (whole !)) (E′.the-laws .1 .1 .0 .lawful 𝓤 H A W .typed (E.the-type .to r .1 .1 .0) _ (LL.owed E.the-type E′.the-laws r _ is .1 .1 .0) .0)) $
+        assigns ! (of-opd ! (load ! (from ! (fld ! refl (stop !))) (look-in ! 22 (sub ! 0 refl (whole !))))) (from ! (stop !)) (init ! 36 refl (tt, record { fits = LL.owed E.the-type E′.the-laws r _ is .0 .1 })) $
         -- the borrow is closed at the new device
         owned ! T.the-row (Is T.the-row) ((LL.makes T.the-type T′.the-plain) 𝓤 H A) (ended r (zs .1 .1 .1 .0)) _ (made r (zs .1 .1 .1 .0) g′ (LL.owed E.the-type E′.the-laws r _ is)) $ move ! (1 ∷ 0 ∷ 6 ∷ 7 ∷ 8 ∷ []) $ use1 W (‵ (cellAt fullShare (T.the-row .mir) (mach (ended r (zs .1 .1 .1 .0)) ∷ []) b o)) (W .laws .at-raw fullShare T′.mir b o (mach (ended r (zs .1 .1 .1 .0)))) $ closes ! tt T.the-row (ended r (zs .1 .1 .1 .0)) (mach (ended r (zs .1 .1 .1 .0)) ∷ []) b o $ move ! (3 ∷ 4 ∷ []) $ join ! $
-        returns ! (look ! 32 refl) $ forget ! 6 refl $ forget ! 8 refl $ forget ! 10 refl $ forget ! 12 refl $ forget ! 14 refl $ forget ! 16 refl $ forget ! 18 refl $ forget ! 20 refl $ forget ! 22 refl $ forget ! 24 refl $ forget ! 26 refl $ forget ! 28 refl $ forget ! 30 refl $ forget ! 32 refl $
-        move ! (32 ∷ 33 ∷ []) $ free1 ! $ move ! (30 ∷ 31 ∷ []) $ free1 ! $ move ! (28 ∷ 29 ∷ []) $ free1 ! $ move ! (26 ∷ 27 ∷ []) $ free1 ! $ move ! (24 ∷ 25 ∷ []) $ free1 ! $ move ! (22 ∷ 23 ∷ []) $ free1 ! $ move ! (20 ∷ 21 ∷ []) $ free1 ! $ move ! (18 ∷ 19 ∷ []) $ free1 ! $ move ! (16 ∷ 17 ∷ []) $ free1 ! $ move ! (14 ∷ 15 ∷ []) $ free1 ! $ move ! (12 ∷ 13 ∷ []) $ free1 ! $ move ! (10 ∷ 11 ∷ []) $ free1 ! $ move ! (8 ∷ 9 ∷ []) $ free1 ! $ move ! (6 ∷ 7 ∷ []) $ free1 ! $ free0 ! $
-        keep ! (1 ∷ 2 ∷ 3 ∷ 0 ∷ 5 ∷ []) $ by ! (exits r (zs .1 .1 .1 .0) (zs .1 .1 .1 .1 .0) (LL.owed E.the-type E′.the-laws r _ is .0 .1) (e (arraysOf h) (typed-proper h g)) l-j))))))))))))))))))))))))))
+        returns ! (look ! 34 refl) $ forget ! 6 refl $ forget ! 8 refl $ forget ! 10 refl $ forget ! 12 refl $ forget ! 14 refl $ forget ! 16 refl $ forget ! 18 refl $ forget ! 20 refl $ forget ! 22 refl $ forget ! 24 refl $ forget ! 26 refl $ forget ! 28 refl $ forget ! 30 refl $ forget ! 32 refl $ forget ! 34 refl $
+        move ! (34 ∷ 35 ∷ []) $ free1 ! $ move ! (32 ∷ 33 ∷ []) $ free1 ! $ move ! (30 ∷ 31 ∷ []) $ free1 ! $ move ! (28 ∷ 29 ∷ []) $ free1 ! $ move ! (26 ∷ 27 ∷ []) $ free1 ! $ move ! (24 ∷ 25 ∷ []) $ free1 ! $ move ! (22 ∷ 23 ∷ []) $ free1 ! $ move ! (20 ∷ 21 ∷ []) $ free1 ! $ move ! (18 ∷ 19 ∷ []) $ free1 ! $ move ! (16 ∷ 17 ∷ []) $ free1 ! $ move ! (14 ∷ 15 ∷ []) $ free1 ! $ move ! (12 ∷ 13 ∷ []) $ free1 ! $ move ! (10 ∷ 11 ∷ []) $ free1 ! $ move ! (8 ∷ 9 ∷ []) $ free1 ! $ move ! (6 ∷ 7 ∷ []) $ free1 ! $ free0 ! $
+        keep ! (1 ∷ 2 ∷ 3 ∷ 0 ∷ 5 ∷ []) $ by ! (exits r (zs .1 .1 .1 .0) (zs .1 .1 .1 .1 .0) (LL.owed E.the-type E′.the-laws r _ is .0 .1) (e (arraysOf h) (typed-proper h g)) l-j)))))))))))))))))))))))))))
 
 module _ {M : Type 1} (𝓤 : URA M) (H : Heap 𝓤) (A : Atoms 𝓤) (W : Given 𝓤 H A) (mem : Memory → SProp 𝓤) (run : Routine → Fun 𝓤) where
   walks : (C : Calls 𝓤 H) (Λ : Loops 𝓤 H) → FmC 𝓤 H (W .laws) C → Triple 𝓤 (C #by) (By 𝓤 H A mem run) → Walks 𝓤 H A f.ended stayed (WpFn 𝓤 H C Λ code.function) (f.clauses 𝓤 H A mem run)

@@ -1,5 +1,5 @@
 -- `dma::byte_written` meets its contract: a command, or nothing. Assumes nothing.
-use Rattle.dma.proofs.Laws.{write-command, byte-idle}
+use Rattle.dma.proofs.Laws.{write-command, byte-none}
 use Rattle.masks.proofs.Ranges.{within-true}
 use Rattle.act.proofs.Laws.{on-nothing}
 use Rattle.rules.specs.Calls.{orNothing}
@@ -23,10 +23,11 @@ same-length c = search needs
 
 returns : tie.Need-returns
 unfolding orNothing
-returns c base lent d w m e = rw (write-command _ _ (c .before .before .before .before .before .before .before .before .pre) (sym (c .before .before .before .before .before .before .within .ensures) ∙ c .before .before .before .before .before .if1 .taken)) (c .before .before .command .ensures base lent d w m e)
+returns c base lent d w m e = rw (write-command _ _ (c .before .before .before .before .before .before .before .before .pre .0) (sym (c .before .before .before .before .before .before .within .ensures) ∙ c .before .before .before .before .before .if1 .taken)) (c .before .before .command .ensures base lent d w m e)
 
 returns-2 : tie.Need-returns-2
-returns-2 c base lent d w m e = rw (byte-idle _ _ (c .before .before .before .pre) (sym (c .before .within .ensures) ∙ c .if1 .left)) (sym (on-nothing base lent _))
+unfolding orNothing
+returns-2 c base lent d w m e = rw (byte-none _ _ (c .before .before .before .pre .0) (sym (c .before .within .ensures) ∙ c .if1 .left) (c .before .before .before .pre .1)) (sym (on-nothing base lent _))
 
 pub byte-written-spec : {M : Type 1} → statement M
 byte-written-spec =

@@ -19,7 +19,7 @@ sub-tcd-write c = omega (arith, within-true _ _ _ (sym (c .before .before .withi
 tcd-write-requires : tie.Need-tcd-write-requires
 tcd-write-requires c κs =
     let e = in-table _ (c .before .before .before .within .ensures) (c .before .before .if1 .taken) in
-    (c .before .before .before .before .before .pre .sized, omega (arith, c .before .before .before .before .before .pre .inside e, within-true _ _ _ (sym (c .before .before .before .within .ensures) ∙ c .before .before .if1 .taken)))
+    (c .before .before .before .before .before .pre .0 .sized, omega (arith, c .before .before .before .before .before .pre .0 .inside e, within-true _ _ _ (sym (c .before .before .before .within .ensures) ∙ c .before .before .if1 .taken)))
 
 same-length : tie.Need-same-length
 same-length c = search needs
@@ -29,7 +29,7 @@ unfolding orNothing
 returns c base lent d w m e = rw (write-table _ _ _ (in-table _ (c .before .before .before .before .before .before .within .ensures) (c .before .before .before .before .before .if1 .taken))) (c .before .before .tcd-write .ensures base lent d w m)
 
 byte-written-requires : tie.Need-byte-written-requires
-byte-written-requires c κs = in-table _ (c .before .before .before .before .within .ensures) (c .before .before .before .if1 .left)
+byte-written-requires c κs = (in-table _ (c .before .before .before .before .within .ensures) (c .before .before .before .if1 .left), rw (c .before .before .match .keys1) at (c .before .before .before .before .before .before .pre .1))
 
 word-written-requires : tie.Need-word-written-requires
 word-written-requires c κs = in-table _ (c .before .before .before .before .within .ensures) (c .before .before .before .if1 .left)

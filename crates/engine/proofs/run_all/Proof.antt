@@ -5,8 +5,8 @@ use borrow.Author.Needs.{needs}
 use Rattle.engine.proofs.run_all.Statement.{statement}
 use Rattle.engine.proofs.run_all.Tie as tie
 
-run-dma-inner-requires : tie.Need-run-dma-inner-requires
-run-dma-inner-requires c κs = search needs
+take-turns-requires : tie.Need-take-turns-requires
+take-turns-requires c κs = search needs
 
 clear-requires : tie.Need-clear-requires
 clear-requires c κs = search needs
@@ -23,19 +23,13 @@ same-length-3 c = search needs
 returns : tie.Need-returns
 returns c =
     let a = c .before .before .before .before .before .before .before .before .before .before .before .before .before .before .before .before .before .before .before .before .before .args in
-    let ran = c .before .before .before .before .before .before .before .before .before .before .run-dma-inner in
+    let ran = c .before .before .before .before .before .before .before .before .before .before .take-turns in
     record {
       does = ran .ensures;
-      cleared-staging = zeros (ran .last .1 .1 .1 .1 .1 .1 .1 .1 .1 .0) (length (a .staging .now)) (c .before .before .clear .ensures) (search (needs, c .before .before .before .before .before .before .before .staging .given));
+      cleared-staging = zeros (ran .last .1 .1 .1 .1 .1 .1 .1 .1 .1 .1 .1 .1 .0) (length (a .staging .now)) (c .before .before .clear .ensures) (search (needs, c .before .before .before .before .before .before .before .staging .given));
     }
 
 pub run-all-spec : {M : Type 1} → statement M
 run-all-spec =
     tie.close
-    (tie.spec
-    run-dma-inner-requires
-    clear-requires
-    same-length
-    same-length-2
-    same-length-3
-    returns)
+    (tie.spec take-turns-requires clear-requires same-length same-length-2 same-length-3 returns)

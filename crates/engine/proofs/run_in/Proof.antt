@@ -3,7 +3,7 @@ use Rattle.engine.specs.Runs.{callOf}
 use Rattle.engine.proofs.Calling.{asked-wrong, refused-told, asked-told}
 use Rattle.engine.proofs.Starts.{right}
 use Rattle.acting.proofs.Laws.{stood-new, stood-old}
-use Rattle.act.specs.Parts.{working}
+use Rattle.act.specs.Parts.{ordered, working}
 use Rattle.rules.specs.declared.Heard.the-variants as Heard
 use Rattle.rules.specs.Calls.{verdictNumber}
 use mathlib.Core.Path.{refl, sym, ap, _∙_}
@@ -50,7 +50,7 @@ returns-2 : tie.Need-returns-2
 returns-2 c x p =
     let a = c .before .before .before .before .before .before .before .before .before .before .before .before .before .before .before .before .before .before .before .before .before .before .before .before .before .before .before .before .args in
     asked-told (a .base) _ _ _ _ (a .used) (a .time) (a .pace) _ (a .again) (sym (c .before .before .before .before .before .before .before .before .before .before .before .before .before .before .before .before .before .before .before .before .before .before .before .before .tested .ensures) ∙ ap verdictNumber (c .before .before .before .before .before .before .before .before .before .before .before .before .before .before .before .before .before .before .before .before .before .before .enum-told .given .1))
-    (stood-old (c .before .before .before .before .before .before .before .before .carried .result) (working x _ _ _ _) (working x _ _ _ _) Heard.Nothing _ _ _ (c .enum-told4 .given .1) (c .before .before .before .before .before .before .before .before .carried .ensures x p))
+    (stood-old (c .before .before .before .before .before .before .before .before .carried .result) (working (ordered x _ (a .chip)) _ _ _ _) (working (ordered x _ (a .chip)) _ _ _ _) Heard.Nothing _ _ _ (c .enum-told4 .given .1) (c .before .before .before .before .before .before .before .before .carried .ensures x p))
 
 same-length-4 : tie.Need-same-length-4
 same-length-4 c = search needs
@@ -65,7 +65,7 @@ returns-3 : tie.Need-returns-3
 returns-3 c x p =
     let a = c .before .before .before .before .before .before .before .before .before .before .before .before .before .before .before .before .before .before .before .before .before .before .before .before .before .before .before .before .args in
     asked-told (a .base) _ _ _ _ (a .used) (a .time) (a .pace) _ (a .again) (sym (c .before .before .before .before .before .before .before .before .before .before .before .before .before .before .before .before .before .before .before .before .before .before .before .before .tested .ensures) ∙ ap verdictNumber (c .before .before .before .before .before .before .before .before .before .before .before .before .before .before .before .before .before .before .before .before .before .before .enum-told .given .1))
-    (stood-new (c .before .before .before .before .before .before .before .before .carried .result) (working x _ _ _ _) (working x _ _ _ _) Heard.Nothing _ _ _ (c .enum-told3 .given .1) (c .before .before .before .before .before .before .before .before .carried .ensures x p))
+    (stood-new (c .before .before .before .before .before .before .before .before .carried .result) (working (ordered x _ (a .chip)) _ _ _ _) (working (ordered x _ (a .chip)) _ _ _ _) Heard.Nothing _ _ _ (c .enum-told3 .given .1) (c .before .before .before .before .before .before .before .before .carried .ensures x p))
 
 pub run-in-spec : {M : Type 1} → statement M
 run-in-spec =

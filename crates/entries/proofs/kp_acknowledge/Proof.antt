@@ -32,8 +32,8 @@ cast-acknowledge c = search needs
 acknowledge-requires : tie.Need-acknowledge-requires
 acknowledge-requires c κs = search needs
 
-put-device-requires : tie.Need-put-device-requires
-put-device-requires c κs = omega (arith, image-long (now (c .before .before .before .before .before .before .before .before .before .before .before .before .args .image)) (sym (c .before .before .before .before .before .before .before .before .is-image .ensures) ∙ not-false _ (c .before .before .before .before .before .before .before .if1 .left)))
+lay-down-requires : tie.Need-lay-down-requires
+lay-down-requires c κs = omega (arith, image-long (now (c .before .before .before .before .before .before .before .before .before .before .before .before .args .image)) (sym (c .before .before .before .before .before .before .before .before .is-image .ensures) ∙ not-false _ (c .before .before .before .before .before .before .before .if1 .left)))
 
 heard-answer-requires : tie.Need-heard-answer-requires
 heard-answer-requires c κs = search needs
@@ -47,7 +47,7 @@ same-length-3 c = search needs
 returns-2 : tie.Need-returns-2
 returns-2 c =
     let a = c .before .before .before .before .before .before .before .before .before .before .before .before .before .before .before .before .args in λ base window staging.
-    heard-entry (now (a .image)) window staging (now (a .journal)) (a .used) (λ d. after (ack (a .ipl % 2 ^ 8)) base d window staging (now (a .journal)) (a .used)) (sym (c .before .before .before .before .before .before .before .before .before .before .before .before .is-image .ensures) ∙ not-false _ (c .before .before .before .before .before .before .before .before .before .before .before .if1 .left)) (c .before .before .before .before .before .before .before .before .before .get-device .ensures) (c .before .before .before .before .before .before .before .acknowledge .result) (c .before .before .before .before .before .before .before .acknowledge .ensures base window staging) (c .heard-answer .ensures) (c .before .before .before .put-device .ensures)
+    heard-entry (now (a .image)) window staging (now (a .journal)) (a .used) (λ d. after (ack (a .ipl % 2 ^ 8)) base d window staging (now (a .journal)) (a .used)) (sym (c .before .before .before .before .before .before .before .before .before .before .before .before .is-image .ensures) ∙ not-false _ (c .before .before .before .before .before .before .before .before .before .before .before .if1 .left)) (c .before .before .before .before .before .before .before .before .before .get-device .ensures) (c .before .before .before .before .before .before .before .acknowledge .result) (c .before .before .before .before .before .before .before .acknowledge .ensures .0 base window staging) (c .heard-answer .ensures) (c .before .before .before .lay-down .ensures)
 
 pub kp-acknowledge-spec : {M : Type 1} → statement M
 kp-acknowledge-spec =
@@ -60,7 +60,7 @@ kp-acknowledge-spec =
     get-device-requires
     cast-acknowledge
     acknowledge-requires
-    put-device-requires
+    lay-down-requires
     heard-answer-requires
     same-length-2
     same-length-3

@@ -1,5 +1,5 @@
 -- `entries::kp_fresh` meets its contract. Assumes nothing.
-use Rattle.entries.proofs.Laws.{fresh-short, fresh-unknown, fresh-entry}
+use Rattle.entries.proofs.Laws.{fresh-short, fresh-unknown, fresh-other, fresh-entry}
 use denote.Ref.{now}
 use native.Mathlib.Omega.{arith}
 use borrow.Author.Needs.{needs}
@@ -10,13 +10,19 @@ packed-requires : tie.Need-packed-requires
 packed-requires c κs = search needs
 
 returns : tie.Need-returns
-returns c = fresh-short _ _ (search needs) (c .packed .ensures)
+returns c = fresh-short _ _ _ (search needs) (c .packed .ensures)
 
 packed-requires-2 : tie.Need-packed-requires-2
 packed-requires-2 c κs = search needs
 
 returns-2 : tie.Need-returns-2
-returns-2 c = fresh-unknown _ _ (search needs) (omega arith) (c .packed2 .ensures)
+returns-2 c = fresh-unknown _ _ _ (search needs) (omega arith) (c .packed2 .ensures)
+
+packed-requires-3 : tie.Need-packed-requires-3
+packed-requires-3 c κs = search needs
+
+returns-3 : tie.Need-returns-3
+returns-3 c = fresh-other _ _ _ (search needs) (omega arith) (omega arith) (c .packed3 .ensures)
 
 fresh-requires : tie.Need-fresh-requires
 fresh-requires c κs = search needs
@@ -27,8 +33,8 @@ put-device-requires c κs = search needs
 same-length : tie.Need-same-length
 same-length c = search needs
 
-returns-3 : tie.Need-returns-3
-returns-3 c = fresh-entry (now (c .before .before .before .before .before .before .before .before .args .image)) _ (search needs) (omega arith) (c .before .before .before .fresh .ensures) (c .before .before .put-device .ensures)
+returns-4 : tie.Need-returns-4
+returns-4 c = fresh-entry (now (c .before .before .before .before .before .before .before .before .before .args .image)) _ _ (search needs) (omega arith) (omega arith) (c .before .before .before .fresh .ensures) (c .before .before .put-device .ensures)
 
 pub kp-fresh-spec : {M : Type 1} → statement M
 kp-fresh-spec =
@@ -38,7 +44,9 @@ kp-fresh-spec =
     returns
     packed-requires-2
     returns-2
+    packed-requires-3
+    returns-3
     fresh-requires
     put-device-requires
     same-length
-    returns-3)
+    returns-4)

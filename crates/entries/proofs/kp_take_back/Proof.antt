@@ -44,7 +44,7 @@ same-length-4 c = search needs
 returns-2 : tie.Need-returns-2
 returns-2 c =
     let a = c .before .before .before .before .before .before .before .before .before .before .before .before .before .before .before .before .before .before .before .args in
-    act-entry (now (a .image)) (now (a .window)) [] (now (a .journal)) (a .used) (λ d. afterBack (a .base) d (now (a .window)) (now (a .journal)) (a .used)) (sym (c .before .before .before .before .before .before .before .before .before .before .before .before .before .before .is-image .ensures) ∙ not-false _ (c .before .before .before .before .before .before .before .before .before .before .before .before .before .if1 .left)) (c .before .before .before .before .before .before .before .before .before .before .before .get-device .ensures) (c .before .before .before .before .before .before .before .before .take-back .result) (c .before .before .before .before .before .before .before .before .take-back .ensures) (c .before .before .put-back .ensures)
+    act-entry (now (a .image)) (now (a .window)) [] (now (a .journal)) (a .used) (λ d. afterBack (a .base) d (now (a .window)) (now (a .journal)) (a .used)) (sym (c .before .before .before .before .before .before .before .before .before .before .before .before .before .before .is-image .ensures) ∙ not-false _ (c .before .before .before .before .before .before .before .before .before .before .before .before .before .if1 .left)) (c .before .before .before .before .before .before .before .before .before .before .before .get-device .ensures) (c .before .before .before .before .before .before .before .before .take-back .result) (c .before .before .before .before .before .before .before .before .take-back .ensures .0) (c .before .before .put-back .ensures)
 
 pub kp-take-back-spec : {M : Type 1} → statement M
 kp-take-back-spec =

@@ -3,8 +3,8 @@ use borrow.Author.Needs.{needs}
 use Rattle.entries.proofs.put_back.Statement.{statement}
 use Rattle.entries.proofs.put_back.Tie as tie
 
-put-device-requires : tie.Need-put-device-requires
-put-device-requires c κs = search needs
+lay-down-requires : tie.Need-lay-down-requires
+lay-down-requires c κs = search needs
 
 answer-of-requires : tie.Need-answer-of-requires
 answer-of-requires c κs = search needs
@@ -13,7 +13,7 @@ same-length : tie.Need-same-length
 same-length c = search needs
 
 returns : tie.Need-returns
-returns c = (c .answer-of .ensures, c .before .before .before .put-device .ensures)
+returns c = (c .answer-of .ensures, c .before .before .before .lay-down .ensures)
 
 pub put-back-spec : {M : Type 1} → statement M
-put-back-spec = tie.close (tie.spec put-device-requires answer-of-requires same-length returns)
+put-back-spec = tie.close (tie.spec lay-down-requires answer-of-requires same-length returns)

@@ -1,6 +1,8 @@
 -- `image::get_device` meets its contract. Assumes nothing.
+use denote.Ref.{now}
+use Rattle.image.specs.Image.{chipIn}
 use Rattle.image.proofs.Laws.{scalars-got}
-use Rattle.image.proofs.Rows.{device-got}
+use Rattle.image.proofs.Rows.{priorities-got, device-got}
 use native.Mathlib.Omega.{arith}
 use lib.Dec.{lit<}
 use borrow.Author.Needs.{needs}
@@ -49,21 +51,30 @@ slice-aggregate-get-counts c = search needs
 get-counts-requires : tie.Need-get-counts-requires
 get-counts-requires c κs = search needs
 
+slice-aggregate-get-bytes : tie.Need-slice-aggregate-get-bytes
+slice-aggregate-get-bytes c = search needs
+
+get-bytes-requires : tie.Need-get-bytes-requires
+get-bytes-requires c κs = search needs
+
 get-controller-requires : tie.Need-get-controller-requires
 get-controller-requires c κs = search needs
 
 get-controller-requires-2 : tie.Need-get-controller-requires-2
-get-controller-requires-2 c κs = search needs
+get-controller-requires-2 c κs = (c .before .before .before .before .before .before .before .before .before .before .before .before .before .before .before .before .before .before .before .before .before .before .before .before .before .pre, lit< tt)
 
 get-controller-requires-3 : tie.Need-get-controller-requires-3
-get-controller-requires-3 c κs = (c .before .before .before .before .before .before .before .before .before .before .before .before .before .before .before .before .before .before .before .before .before .before .before .pre, lit< tt)
+get-controller-requires-3 c κs = (c .before .before .before .before .before .before .before .before .before .before .before .before .before .before .before .before .before .before .before .before .before .before .before .before .before .before .pre, lit< tt)
 
-shared-slice-read-t34 : tie.Need-shared-slice-read-t34
-shared-slice-read-t34 c = omega (arith, c .before .before .before .before .before .before .before .before .before .before .before .before .before .before .before .before .before .before .before .before .before .before .before .before .before .pre)
+shared-slice-read-t38 : tie.Need-shared-slice-read-t38
+shared-slice-read-t38 c = omega (arith, c .before .before .before .before .before .before .before .before .before .before .before .before .before .before .before .before .before .before .before .before .before .before .before .before .before .before .before .before .pre)
+
+shared-slice-read-t41 : tie.Need-shared-slice-read-t41
+shared-slice-read-t41 c = omega (arith, c .before .before .before .before .before .before .before .before .before .before .before .before .before .before .before .before .before .before .before .before .before .before .before .before .before .before .before .before .before .pre)
 
 returns : tie.Need-returns
 returns c =
-    device-got _ (scalars-got _ (c .before .before .before .before .before .before .before .before .before .before .before .before .before .before .before .before .before .before .before .before .before .before .get-wides .ensures) (c .before .before .before .before .before .before .before .before .before .before .before .before .before .before .before .before .before .before .before .from-list .ensures)) (c .before .before .before .before .before .before .before .before .before .before .before .before .before .before .before .before .before .get-table .ensures) (c .before .before .before .before .before .before .before .before .before .before .before .before .before .before .get-wides2 .ensures) (c .before .before .before .before .before .before .before .before .before .before .before .get-wides3 .ensures) (c .before .before .before .before .before .before .before .before .get-wides4 .ensures) (c .before .before .before .before .before .get-counts .ensures) (c .before .before .before .get-controller .ensures) (c .before .before .get-controller2 .ensures) (c .before .get-controller3 .ensures)
+    device-got _ (scalars-got _ (c .before .before .before .before .before .before .before .before .before .before .before .before .before .before .before .before .before .before .before .before .before .before .before .before .before .before .get-wides .ensures) (c .before .before .before .before .before .before .before .before .before .before .before .before .before .before .before .before .before .before .before .before .before .before .before .from-list .ensures)) (c .before .before .before .before .before .before .before .before .before .before .before .before .before .before .before .before .before .before .before .before .before .get-table .ensures) (c .before .before .before .before .before .before .before .before .before .before .before .before .before .before .before .before .before .before .get-wides2 .ensures) (c .before .before .before .before .before .before .before .before .before .before .before .before .before .before .before .get-wides3 .ensures) (c .before .before .before .before .before .before .before .before .before .before .before .before .get-wides4 .ensures) (c .before .before .before .before .before .before .before .before .before .get-counts .ensures) (priorities-got (chipIn (now (c .before .before .before .before .before .before .before .before .before .before .before .before .before .before .before .before .before .before .before .before .before .before .before .before .before .before .before .before .before .args .image))) _ (c .before .before .before .before .before .before .get-bytes .ensures)) (c .before .before .before .before .get-controller .ensures) (c .before .before .before .get-controller2 .ensures) (c .before .before .get-controller3 .ensures)
 
 pub get-device-spec : {M : Type 1} → statement M
 get-device-spec =
@@ -83,8 +94,11 @@ get-device-spec =
     get-wides-requires-4
     slice-aggregate-get-counts
     get-counts-requires
+    slice-aggregate-get-bytes
+    get-bytes-requires
     get-controller-requires
     get-controller-requires-2
     get-controller-requires-3
-    shared-slice-read-t34
+    shared-slice-read-t38
+    shared-slice-read-t41
     returns)

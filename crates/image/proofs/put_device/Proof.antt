@@ -13,8 +13,8 @@ slice-aggregate-put-table c = search needs
 put-table-requires : tie.Need-put-table-requires
 put-table-requires c κs = let a = c .before .before .before .before in omega (arith, table-size (a .args .d) (a .good .1 .0))
 
-put-flag-requires : tie.Need-put-flag-requires
-put-flag-requires c κs = search needs
+put-flags-requires : tie.Need-put-flags-requires
+put-flags-requires c κs = search needs
 
 put-scalars-requires : tie.Need-put-scalars-requires
 put-scalars-requires c κs = search needs
@@ -37,7 +37,7 @@ same-length c = search needs
 returns : tie.Need-returns
 returns c =
     let a = c .before .before .before .before .before .before .before .before .before .before .before .before .before .before .before .before .before .before .before .before .before .before .before .before .before .before .before .before .before .before .before in
-    image-laid (view (a .args .d)) (sound (a .args .d) (a .good .1 .0)) (table-size (a .args .d) (a .good .1 .0)) _ _ _ _ _ _ _ _ (a .pre) (c .before .before .before .before .before .before .before .before .before .before .before .before .before .before .before .before .before .before .before .before .before .before .before .before .before .before .put-table .ensures) (c .before .before .before .before .before .before .before .before .before .before .before .before .before .before .before .before .before .before .before .before .before .before .put-flag .ensures) (c .before .before .before .before .before .before .before .before .before .before .before .before .before .before .before .before .before .before .put-scalars .ensures) (c .before .before .before .before .before .before .before .before .before .before .before .before .before .before .put-own .ensures) (c .before .before .before .before .before .before .before .before .before .before .put-channels .ensures) (c .before .before .before .before .before .before .put-levels .ensures) (c .before .before .put-taken .ensures)
+    image-laid (view (a .args .d)) (sound (a .args .d) (a .good .1 .0)) (table-size (a .args .d) (a .good .1 .0)) _ _ _ _ _ _ _ _ (a .pre) (c .before .before .before .before .before .before .before .before .before .before .before .before .before .before .before .before .before .before .before .before .before .before .before .before .before .before .put-table .ensures) (c .before .before .before .before .before .before .before .before .before .before .before .before .before .before .before .before .before .before .before .before .before .before .put-flags .ensures) (c .before .before .before .before .before .before .before .before .before .before .before .before .before .before .before .before .before .before .put-scalars .ensures) (c .before .before .before .before .before .before .before .before .before .before .before .before .before .before .put-own .ensures) (c .before .before .before .before .before .before .before .before .before .before .put-channels .ensures) (c .before .before .before .before .before .before .put-levels .ensures) (c .before .before .put-taken .ensures)
 
 pub put-device-spec : {M : Type 1} → statement M
 put-device-spec =
@@ -45,7 +45,7 @@ put-device-spec =
     (tie.spec
     slice-aggregate-put-table
     put-table-requires
-    put-flag-requires
+    put-flags-requires
     put-scalars-requires
     put-own-requires
     put-channels-requires

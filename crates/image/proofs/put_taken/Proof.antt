@@ -14,19 +14,16 @@ slice-aggregate-put-wides c = search needs
 put-wides-requires : tie.Need-put-wides-requires
 put-wides-requires c κs = let a = c .before .before .before .before in omega (arith, taken-long (view (a .args .d)) (sound (a .args .d) (a .good .1 .0)))
 
-slice-aggregate-put-wides-2 : tie.Need-slice-aggregate-put-wides-2
-slice-aggregate-put-wides-2 c = search needs
-
-put-wides-requires-2 : tie.Need-put-wides-requires-2
-put-wides-requires-2 c κs = search needs
+put-priorities-requires : tie.Need-put-priorities-requires
+put-priorities-requires c κs = search needs
 
 same-length : tie.Need-same-length
 same-length c = search needs
 
 returns : tie.Need-returns
 returns c =
-    let a = c .before .before .before .before .before .before .before .before .before .before .before .before in
-    taken-laid (view (a .args .d)) (sound (a .args .d) (a .good .1 .0)) _ _ _ [] [] (c .before .before .before .before .before .before .before .put-wides .ensures) (c .before .before .put-wides2 .ensures)
+    let a = c .before .before .before .before .before .before .before .before .before .before .before in
+    taken-laid (view (a .args .d)) (sound (a .args .d) (a .good .1 .0)) _ _ _ [] [] (c .before .before .before .before .before .before .put-wides .ensures) (c .before .before .put-priorities .ensures)
 
 pub put-taken-spec : {M : Type 1} → statement M
 put-taken-spec =
@@ -34,7 +31,6 @@ put-taken-spec =
     (tie.spec
     slice-aggregate-put-wides
     put-wides-requires
-    slice-aggregate-put-wides-2
-    put-wides-requires-2
+    put-priorities-requires
     same-length
     returns)

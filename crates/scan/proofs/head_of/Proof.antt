@@ -2,6 +2,7 @@
 use borrow.Author.Tests.{not-true, not-false}
 use mathlib.Core.Path.{sym, _∙_}
 use Rattle.scan.proofs.HeadLaws.{unmarked, in-window, in-table, in-field, other-kind}
+use Rattle.scan.proofs.Laws.{mode-scanning, store-head}
 use borrow.Author.Needs.{needs}
 use Rattle.scan.proofs.head_of.Statement.{statement}
 use Rattle.scan.proofs.head_of.Tie as tie
@@ -45,17 +46,17 @@ field-head-requires c κs = search needs
 returns-2 : tie.Need-returns-2
 returns-2 c =
     in-window _ _ _ _ (sym (c .before .before .before .before .before .before .is-marked .ensures) ∙ not-false _ (c .before .before .before .before .before .if1 .left)) (c .before .before .before .before .get1 .ensures) (c .before .before .before .get12 .ensures) (c .before .before .get4 .ensures)
-    (c .before .match .keys1) (c .window-head .ensures)
+    (c .before .match .keys1) (store-head _ _ _ _ _ _ (c .window-head .ensures))
 
 returns-3 : tie.Need-returns-3
 returns-3 c =
     in-table _ _ _ _ (sym (c .before .before .before .before .before .before .is-marked .ensures) ∙ not-false _ (c .before .before .before .before .before .if1 .left)) (c .before .before .before .before .get1 .ensures) (c .before .before .before .get12 .ensures) (c .before .before .get4 .ensures)
-    (c .before .match .keys2) (c .table-head .ensures _ _)
+    (c .before .match .keys2) (store-head _ _ _ _ _ _ (c .table-head .ensures _ _))
 
 returns-4 : tie.Need-returns-4
 returns-4 c =
     in-field _ _ _ _ (sym (c .before .before .before .before .before .before .is-marked .ensures) ∙ not-false _ (c .before .before .before .before .before .if1 .left)) (c .before .before .before .before .get1 .ensures) (c .before .before .before .get12 .ensures) (c .before .before .get4 .ensures)
-    (c .before .match .keys3) (c .field-head .ensures _)
+    (mode-scanning _ _) (c .before .match .keys3) (c .field-head .ensures _)
 
 returns-5 : tie.Need-returns-5
 returns-5 c =

@@ -24,10 +24,13 @@ returns-2 c base w =
     outside _ _ _ _ _ (sym (c .before .before .is-table-width .ensures) ∙ not-false _ (c .before .if1 .left))
     (past-table _ _ _ _ (omega (arith, table-holding w)))
 
+mul-t5 : tie.Need-mul-t5
+mul-t5 c = search needs
+
 returns-3 : tie.Need-returns-3
 returns-3 c base w =
     wide _ _ _ _ _ (sym (c .before .before .is-table-width .ensures) ∙ not-false _ (c .before .if1 .left))
     (in-table _ _ _ _ (omega (arith, table-holding w)))
 
 pub table-head-spec : {M : Type 1} → statement M
-table-head-spec = tie.close (tie.spec is-table-width-requires returns add-if2 returns-2 returns-3)
+table-head-spec = tie.close (tie.spec is-table-width-requires returns add-if2 returns-2 mul-t5 returns-3)

@@ -1,6 +1,8 @@
 -- `scan::window_head` meets its contract: a wrong width, a place outside, and neither. Assumes nothing.
 use borrow.Author.Tests.{not-true, not-false}
 use mathlib.Core.Path.{sym, _∙_}
+use native.Mathlib.Omega.{arith}
+use Rattle.rules.specs.Act.{window}
 use Rattle.memory.proofs.Laws.{not-inside, inside}
 use Rattle.scan.proofs.HeadLaws.{legal-most, wrong-width, outside, wide}
 use borrow.Author.Needs.{needs}
@@ -27,6 +29,9 @@ returns-2 c =
     outside _ _ _ _ _ (sym (c .before .before .before .before .is-memory-width .ensures) ∙ not-false _ (c .before .before .before .if1 .left))
     (not-inside _ _ _ _ (c .before .before .where-is .ensures) (c .enum-told2 .given .1))
 
+mul-t8 : tie.Need-mul-t8
+mul-t8 c = record { fits = omega (arith, legal-most window (c .before .before .before .before .before .before .args .width) (sym (c .before .before .before .before .is-memory-width .ensures) ∙ not-false _ (c .before .before .before .if1 .left))) }
+
 returns-3 : tie.Need-returns-3
 returns-3 c =
     wide _ _ _ _ _ (sym (c .before .before .before .before .is-memory-width .ensures) ∙ not-false _ (c .before .before .before .if1 .left))
@@ -42,4 +47,5 @@ window-head-spec =
     enum-told
     enum-told-2
     returns-2
+    mul-t8
     returns-3)

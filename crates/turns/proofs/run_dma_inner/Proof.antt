@@ -4,7 +4,7 @@ use borrow.Author.Needs.{needs}
 use lib.ListN.{length}
 use mathlib.Core.Path.{_≡_, refl, ap}
 use Rattle.rules.specs.Carry.{go, lending}
-use Rattle.rules.specs.Run.{turns, runTurns, runAll}
+use Rattle.rules.specs.Run.{turns, runTurns}
 use Rattle.rules.specs.State.{Device}
 use Rattle.turns.specs.Turns.{turning}
 use Rattle.turns.proofs.run_dma_inner.Statement.{statement}
@@ -17,14 +17,14 @@ Inv-loop time pace base window₀ table₀ busy₀ majors₀ pending₀ staging�
     × (length journal ≡ length journal₀)
     × ((d : Device)
     → go base (lending (length staging₀)) (turns time pace left) (turning d s window journal table busy majors pending)
-    ≡ go base (lending (length staging₀)) (runAll time pace) (turning d s₀ window₀ journal₀ table₀ busy₀ majors₀ pending₀))
+    ≡ go base (lending (length staging₀)) (turns time pace runTurns) (turning d s₀ window₀ journal₀ table₀ busy₀ majors₀ pending₀))
 
 abbrev μ-loop : tie.MeasureT-loop
 μ-loop time pace base window₀ table₀ busy₀ majors₀ pending₀ staging₀ journal₀ s₀ left₀ window table busy majors pending staging journal s left =
     left
 
 loop-holds : tie.Need-loop-holds Inv-loop μ-loop
-unfolding runAll runTurns
+unfolding runTurns
 loop-holds c = (refl, refl, refl, λ d. refl)
 
 same-length : tie.Need-same-length Inv-loop μ-loop
