@@ -869,38 +869,42 @@ use Rattle·%(C)s·proofs.proofs.%(fn)s.Code as code
 
 CALLS='use Rattle.rules.specs.Calls.{%s}'
 PARTS='use Rattle.act.specs.Parts.{%s}'
+# what is said of priorities, by one that is lent them and by an entry
+spared=lambda answer,exit:'SparedBy (%s) (h .priorities) (%s)'%(answer,exit)
 # what BY says, what the entry says, and how the second is taken from the first: of an act that is lent neither window nor staging, and of one that is
 def aside(call,form,arrays):
-    def said(kind,r,answer,exit,z):
-        if kind=='by': return '(x : Arrays) → %s (%s) k %s (%s) (%s) ys-j %s u'%(form,call,r,arrays(lambda f:'(h .%s)'%f),arrays(lambda f:z[f]),z['j'])
-        if kind=='entry': return 'Aside (%s) (view h) (view (%s)) ys-j %s u (%s)'%(call,exit,z['j'],answer)
-        return '%s (arraysOf h) (typed-proper h g)'%r
-    return said
+    def by(r,z): return '(x : Arrays) → %s (%s) k %s (%s) (%s) ys-j %s u'%(form,call,r,arrays(lambda f:'(h .%s)'%f),arrays(lambda f:z[f]),z['j'])
+    def entry(answer,exit,z): return 'Aside (%s) (view h) (view (%s)) ys-j %s u (%s)'%(call,exit,z['j'],answer)
+    return by,entry
 def turns(call):
+    def by(r,z): return '(x : Arrays) → RunsFed (%s) base k %s x ys-w %s ys-s %s ys-j %s %s u'%(call,r,z['w'],z['s'],z['j'],' '.join('(h .%s) %s'%(f,z[f]) for f in RUNS))
+    def entry(answer,exit,z): return 'left (%s) (view (%s)) %s %s %s ≡ leftOf (after (%s) base (view h) ys-w ys-s ys-j u)'%(answer,exit,z['w'],z['s'],z['j'],call)
+    return by,entry
+def saying(lent,by,entry):
     def said(kind,r,answer,exit,z):
-        if kind=='by': return '(x : Arrays) → RunsFed (%s) base k %s x ys-w %s ys-s %s ys-j %s %s u'%(call,r,z['w'],z['s'],z['j'],' '.join('(h .%s) %s'%(f,z[f]) for f in RUNS))
-        if kind=='entry': return 'left (%s) (view (%s)) %s %s %s ≡ leftOf (after (%s) base (view h) ys-w ys-s ys-j u)'%(answer,exit,z['w'],z['s'],z['j'],call)
-        return '%s (arraysOf h) (typed-proper h g)'%r
+        if kind=='by': return '(%s) × %s'%(by(r,z),spared(answer,z['priorities'])) if 'priorities' in lent else by(r,z)
+        if kind=='entry': return '(%s) × %s'%(entry(answer,exit,z),spared(answer,'(%s) .priorities'%exit))
+        return '(%s .0 (arraysOf h) (typed-proper h g), %s .1)'%(r,r) if 'priorities' in lent else '(%s (arraysOf h) (typed-proper h g), λ n is. refl)'%r
     return said
-back=lambda r,x,z:'left (%s .answer) (view (%s)) %s [] %s ≡ leftOf (afterBack base (view h) ys-w ys-j u)'%(r,x,z['w'],z['j'])
+storing=lambda says:lambda r,x,z:'(%s) × %s'%(says(r,x,z),spared('%s .answer'%r,'(%s) .priorities'%x))
 
 J=('slice','j'); U=('u64','u'); RUN=[('u64','t'),('u64','p'),('u32','base'),('slice','w'),('slice','s'),J,U]
 RUNS=['table','busy','majors','pending','priorities']
 # entries that lend fields: name, parameters, the fields, what is said, what the proof names of rules' Calls, of act's Parts and of specs, whether numbers and
 # controllers come back
 LENT=[
- ('write',[('u32','n'),('u32','m'),('u32','v'),J,U],['table','pending','priorities'],aside('writeCall n m v','Feeds',lambda f:'ordered (tabled (counted x %s) %s) %s (h .chip)'%(f('pending'),f('table'),f('priorities'))),([CALLS%'write as writeCall',PARTS%'Arrays, arraysOf, ordered, tabled, counted'],['Aside','Feeds']),True),
- ('inputs',[('u64','n'),('u64','m'),('u64','v'),('u64','y'),J,U],['pending'],aside('inputsCall n m v y','Feeds',lambda f:'counted x %s'%f('pending')),([CALLS%'inputs as inputsCall',PARTS%'Arrays, arraysOf, counted'],['Aside','Feeds']),True),
- ('pending',[('u32','n'),('u32','m'),J,U],['pending'],aside('pendingCall n m','Feeds',lambda f:'counted x %s'%f('pending')),([CALLS%'pending as pendingCall',PARTS%'Arrays, arraysOf, counted'],['Aside','Feeds']),True),
- ('acknowledge',[('u32','n'),J,U],['taken'],aside('ack (n % 2 ^ 8)','Heeds',lambda f:'taking x %s'%f('taken')),(['use Prim.Native.Nat.{_%_}',CALLS%'ack',PARTS%'Arrays, arraysOf, taking'],['Aside','Heeds']),False),
- ('run',RUN,RUNS,turns('runCall t p'),([CALLS%'after, run as runCall',PARTS%'Arrays, arraysOf'],['left','leftOf','RunsFed']),True),
- ('service',RUN,RUNS,turns('serviceCall t p'),([CALLS%'after, service as serviceCall',PARTS%'Arrays, arraysOf'],['left','leftOf','RunsFed']),True),
+ ('write',[('u32','n'),('u32','m'),('u32','v'),J,U],['table','pending','priorities'],aside('writeCall n m v','Feeds',lambda f:'ordered (tabled (counted x %s) %s) %s (h .chip)'%(f('pending'),f('table'),f('priorities'))),([CALLS%'write as writeCall',PARTS%'Arrays, arraysOf, ordered, tabled, counted'],['Aside','Feeds','SparedBy']),True),
+ ('inputs',[('u64','n'),('u64','m'),('u64','v'),('u64','y'),J,U],['pending'],aside('inputsCall n m v y','Feeds',lambda f:'counted x %s'%f('pending')),([CALLS%'inputs as inputsCall',PARTS%'Arrays, arraysOf, counted'],['Aside','Feeds','SparedBy']),True),
+ ('pending',[('u32','n'),('u32','m'),J,U],['pending'],aside('pendingCall n m','Feeds',lambda f:'counted x %s'%f('pending')),([CALLS%'pending as pendingCall',PARTS%'Arrays, arraysOf, counted'],['Aside','Feeds','SparedBy']),True),
+ ('acknowledge',[('u32','n'),J,U],['taken'],aside('ack (n % 2 ^ 8)','Heeds',lambda f:'taking x %s'%f('taken')),(['use Prim.Native.Nat.{_%_}',CALLS%'ack',PARTS%'Arrays, arraysOf, taking'],['Aside','Heeds','SparedBy']),False),
+ ('run',RUN,RUNS,turns('runCall t p'),([CALLS%'after, run as runCall',PARTS%'Arrays, arraysOf'],['left','leftOf','RunsFed','SparedBy']),True),
+ ('service',RUN,RUNS,turns('serviceCall t p'),([CALLS%'after, service as serviceCall',PARTS%'Arrays, arraysOf'],['left','leftOf','RunsFed','SparedBy']),True),
 ]
 # entries that store the device whole: name, parameters, what it says, what the proof names
 TABLE=[
- ('fresh',[('u32','n'),('u32','m')],lambda r,x,z:'left (%s .answer) (view (%s)) [] [] [] ≡ freshBy (view h) n m'%(r,x),([],['left','freshBy'])),
- ('load',[('shr','i')],lambda r,x,z:'left (%s .answer) (view (%s)) [] [] [] ≡ loadedBy (view h) ys-i'%(r,x),([],['left','loadedBy'])),
- ('take_back',[('u32','base'),('slice','w'),J,U],back,([CALLS%'afterBack'],['left','leftOf'])),
+ ('fresh',[('u32','n'),('u32','m')],lambda r,x,z:'left (%s .answer) (view (%s)) [] [] [] ≡ freshBy (view h) n m'%(r,x),([],['left','freshBy','SparedBy'])),
+ ('load',[('shr','i')],lambda r,x,z:'left (%s .answer) (view (%s)) [] [] [] ≡ loadedBy (view h) ys-i'%(r,x),([],['left','loadedBy','SparedBy'])),
+ ('take_back',[('u32','base'),('slice','w'),J,U],lambda r,x,z:'left (%s .answer) (view (%s)) %s [] %s ≡ leftOf (afterBack base (view h) ys-w ys-j u)'%(r,x,z['w'],z['j']),([CALLS%'afterBack'],['left','leftOf','SparedBy'])),
 ]
 
 # entries over a `&Device` that answer a number
@@ -910,32 +914,35 @@ SHARED=[
 ]
 
 # the functions that they call, on a device in parts: name, callee, the call, its arguments, how far back the callee stands in the proof's places, the core
-# and the arguments; how many slices; which part of the callee's promise is meant; the arrays before and after it
+# and the arguments; how many slices; which part of the callee's promise is meant, and of priorities that are lent what spares them; the arrays before and
+# after it
 COUNTED='(counted x _)'; WORKED='(working (ordered x (a .priorities .now) (a .k .chip)) _ _ _ _)'; WRITTEN='(ordered (tabled (counted x _) _) (%s) (a .k .chip))'
 BYS=[
- ('write','write_in','write',['address','size','value'],3,8,10,1,' .0',(WRITTEN%'a .priorities .now',WRITTEN%('c .before .before .before .write-in .last'+' .1'*7+' .0'))),
- ('inputs','inputs_in','inputs',['standing','lines0','lines1','lines2'],3,6,8,1,'',(COUNTED,COUNTED)),
- ('pending','pending_in','pending',['channel','count'],3,6,8,1,'',(COUNTED,COUNTED)),
- ('run','run_in','run',['time','pace'],7,16,20,3,'',(WORKED,WORKED)),
- ('service','run_in','service',['time','pace'],7,16,20,3,'',(WORKED,WORKED)),
+ ('write','write_in','write',['address','size','value'],3,8,10,1,' .0','spared-answer (c .before .before .before .write-in .result .verdict) (c .before .before .before .write-in .result .used) (c .before .before .before .write-in .ensures .1) (c .handed-back .ensures .0)',(WRITTEN%'a .priorities .now',WRITTEN%('c .before .before .before .write-in .last'+' .1'*7+' .0'))),
+ ('inputs','inputs_in','inputs',['standing','lines0','lines1','lines2'],3,6,8,1,'',None,(COUNTED,COUNTED)),
+ ('pending','pending_in','pending',['channel','count'],3,6,8,1,'',None,(COUNTED,COUNTED)),
+ ('run','run_in','run',['time','pace'],7,16,20,3,'','λ n is. refl',(WORKED,WORKED)),
+ ('service','run_in','service',['time','pace'],7,16,20,3,'','λ n is. refl',(WORKED,WORKED)),
 ]
 
-def by_proof(name,callee,call,args,at,core,top,slices,part,arrays):
+def by_proof(name,callee,call,args,at,core,top,slices,part,spares,arrays):
     b=lambda n:'c'+' .before'*n
     cn=callee.replace('_','-')
     needs=['core-in-requires',cn+'-requires','handed-back-requires']
     lens=['same-length']+['same-length-%d'%i for i in range(2,slices+1)]
     L=['-- `direct::%s_by` meets its contract, from that of the call on a device in parts. Assumes nothing.'%name,
-       'use Rattle.direct.proofs.Laws.{proper-core, fed-left}','use Rattle.rules.specs.Calls.{%s}'%call,'use Rattle.act.specs.Parts.{%s}'%', '.join(n for n in ('ordered','tabled','counted','working') if n in arrays[0]),'use borrow.Author.Needs.{needs}',
+       'use Rattle.direct.proofs.Laws.{proper-core, fed-left%s}'%(', spared-answer' if spares and 'spared-answer' in spares else ''),'use Rattle.rules.specs.Calls.{%s}'%call,'use Rattle.act.specs.Parts.{%s}'%', '.join(n for n in ('ordered','tabled','counted','working') if n in arrays[0]),'use borrow.Author.Needs.{needs}',
        'use Rattle.direct.proofs.%s_by.Statement.{statement}'%name,'use Rattle.direct.proofs.%s_by.Tie as tie'%name,'']
     for n in needs: L+=['%s : tie.Need-%s'%(n,n),'%s c κs = search needs'%n,'']
     for n in lens: L+=['%s : tie.Need-%s'%(n,n),'%s c = search needs'%n,'']
     if slices==1: bound,base,lists=' base w s','base','w s _ w s _'
     else: bound,base,lists='','(a .base)','_ _ _ _ _ _'
-    L+=['returns : tie.Need-returns','returns c x proper%s ='%bound,'    let a = %s .args in'%b(top),
-        '    let core = %s .core-in in'%b(core),
-        '    fed-left (%s) (a .k) (core .result) (core .ensures) (%s .%s .result) (c .handed-back .result) %s %s %s %s (a .used)'%(' '.join([call]+['(a .%s)'%z for z in args]),b(at),cn,arrays[0],arrays[1],base,lists),
-        '    (%s .%s .ensures%s x (proper-core (a .k) (core .result) %s (core .ensures) proper)%s) (c .handed-back .ensures)'%(b(at),cn,part,arrays[0],bound),'',
+    if spares and 'refl' in spares: L[1:1]=['use mathlib.Core.Path.{refl}']
+    left='fed-left (%s) (a .k) (core .result) (core .ensures) (%s .%s .result) (c .handed-back .result) %s %s %s %s (a .used)'%(' '.join([call]+['(a .%s)'%z for z in args]),b(at),cn,arrays[0],arrays[1],base,lists)
+    from_='(%s .%s .ensures%s x (proper-core (a .k) (core .result) %s (core .ensures) proper)%s) (c .handed-back .ensures)'%(b(at),cn,part,arrays[0],bound)
+    L+=['returns : tie.Need-returns','returns c%s ='%('' if spares else ' x proper'+bound),'    let a = %s .args in'%b(top),'    let core = %s .core-in in'%b(core)]
+    L+=(['    (λ x proper%s. %s %s, %s)'%(bound,left,from_,spares)] if spares else ['    '+left,'    '+from_])
+    L+=['',
         'pub %s-by-spec : {M : Type 1} → statement M'%name,'%s-by-spec = tie.close (tie.spec %s)'%(name,' '.join(needs+lens+['returns']))]
     return '\n'.join(L)+'\n'
 
@@ -944,7 +951,7 @@ if __name__=='__main__':
     def write(name,text):
         os.makedirs(base+name,exist_ok=True)
         open(base+name+'/Proof.antt','w').write(text)
-    for name,ps,lent,said,uses,fed in LENT: write('kp_device_'+name,gen_lent('kp_device_'+name,name+'_by',ps,lent,said,uses,fed))
-    for name,ps,call,uses in TABLE: write('kp_device_'+name,gen('kp_device_'+name,name+'_by',ps,call,uses))
+    for name,ps,lent,says,uses,fed in LENT: write('kp_device_'+name,gen_lent('kp_device_'+name,name+'_by',ps,lent,saying(lent,*says),uses,fed))
+    for name,ps,says,uses in TABLE: write('kp_device_'+name,gen('kp_device_'+name,name+'_by',ps,storing(says),uses))
     for name,ps,call,uses in SHARED: write('kp_device_'+name,gen_shr('kp_device_'+name,name+'_by',ps,call,uses))
     for row in BYS: write(row[0]+'_by',by_proof(*row))

@@ -5,16 +5,18 @@ use mathlib.Core.Path.{_≡_, refl, sym, ap, _∙_}
 use Prim.Native.Nat.{ℕ, _≤_, _<_}
 use native.Mathlib.Omega.{arith}
 use borrow.Author.Tests.{eq-eqb, ne-eqb, lt-ltb, le-ltb}
-use lib.Dec.{eqb}
+use lib.Dec.{eqb, lit<}
 use lib.ListN.{length}
 use Rattle.rules.specs.Act.{IGNORE}
-use Rattle.rules.specs.Calls.{Asked, ack, Told, deviceTold, after, toldActed, fresh, verdictNumber, heardLevel, heardVector}
+use Rattle.rules.specs.Calls.{Asked, ack, Told, deviceTold, after, toldActed, Spared, fresh, verdictNumber, heardLevel, heardVector}
 use Rattle.rules.specs.State.{Device}
 use Rattle.rules.specs.View.{viewPriorities, view}
 use Rattle.rules.specs.declared.Acted.{Acted}
 use Rattle.rules.specs.declared.Device.{Device as HeldDevice}
 use Rattle.rules.specs.declared.Heard.{Heard}
 use Rattle.rules.specs.declared.Heard.the-variants as Heard
+use Rattle.rules.specs.declared.Verdict.{Verdict}
+use Rattle.rules.specs.declared.Verdict.the-variants as Verdict
 use Rattle.image.specs.Image.{imageOf, deviceIn, isImage}
 use Rattle.act.specs.Parts.{Arrays, whole, toldDone}
 use Rattle.rules.proofs.Each.{Proper}
@@ -23,15 +25,27 @@ use Rattle.act.specs.declared.Core.{Core}
 use Rattle.act.specs.declared.Done.{Done}
 use Rattle.direct.proofs.Hears.{ack-keeps}
 use Rattle.answers.specs.Answers.{packed, left, leftBy}
+use Rattle.answers.proofs.Reading.{statusIn, unpacked}
 use Rattle.direct.specs.declared.Fed.{Fed}
 use Rattle.direct.specs.declared.Short.{Short}
-use Rattle.direct.specs.Direct.{coreIn, fedCore, leftOf, freshBy, saved, savedBy, loadedBy}
+use Rattle.direct.specs.Direct.{coreIn, fedCore, leftOf, SparedBy, freshBy, saved, savedBy, loadedBy}
 
 -- an act that was made, and what it answered put into one number
 pub act-left : (a : Acted) {window staging journal : List ℕ} {t : Told} {r : ℕ} {d : HeldDevice} → toldActed a window staging journal ≡ t → (r ≡ packed (verdictNumber (a .verdict)) 0 0 (a .used)) × (d ≡ a .device)
     → left r (view d) window staging journal ≡ leftOf t
 unfolding leftBy
 act-left a q s = rw (← q, s .0, s .1) refl
+
+-- and the number of a refusal is in the answer
+pub spared-answer : (v : Verdict) (used : ℕ) {held held′ : List ℕ} {r : ℕ} → Spared v held held′ → r ≡ packed (verdictNumber v) 0 0 used → SparedBy r held held′
+spared-answer Verdict.Accepted used spared p n is =
+    let none : statusIn _ ≡ 0 = ap statusIn p ∙ unpacked 0 0 0 used (lit< tt) (lit< tt) .0 in
+    absurd (omega (arith, none, is))
+spared-answer (Verdict.Refused why) used spared p n is = spared why refl
+
+pub spared-device : (a : Acted) {d : HeldDevice} {held : List ℕ} {r : ℕ} → Spared (a .verdict) held (a .device .priorities)
+    → (r ≡ packed (verdictNumber (a .verdict)) 0 0 (a .used)) × (d ≡ a .device) → SparedBy r held (d .priorities)
+spared-device a spared s = rw (s .1) (spared-answer (a .verdict) (a .used) spared (s .0))
 
 -- the same on a device in parts: no call changes a setting
 abbrev pub kept : Core → Core → Core

@@ -2,7 +2,7 @@
 use mathlib.Core.Bool.{cond, _&&_}
 use mathlib.Core.List.{List, []}
 use mathlib.Core.Path.{_≡_}
-use Prim.Native.Nat.{ℕ}
+use Prim.Native.Nat.{ℕ, suc}
 use lib.Dec.{eqb, ltb}
 use lib.ListN.{length}
 use Rattle.rules.specs.Calls.{Asked, Told, after, fresh}
@@ -12,12 +12,18 @@ use Rattle.act.specs.Parts.{Arrays, ordered, working, whole}
 use Rattle.act.specs.declared.Core.{Core}
 use Rattle.image.specs.Image.{imageOf, deviceIn, isImage}
 use Rattle.answers.specs.Answers.{packed, Left, left, leftBy}
+use Rattle.answers.proofs.Reading.{statusIn}
 use Rattle.direct.specs.declared.Fed.{Fed}
 use Rattle.direct.specs.declared.Short.{Short}
 
 -- an act or a take-back: what the call tells
 abbrev pub leftOf : Told → Left Device
 leftOf t = leftBy (λ d. d) t
+
+-- where the answer has the number of a refusal, those bits of priorities that count for nothing (rules/specs/View) are as they were too: of all that are
+-- held, before and after it
+abbrev pub SparedBy : ℕ → List ℕ → List ℕ → Type 0
+SparedBy r held held′ = (n : ℕ) → statusIn r ≡ suc n → held′ ≡ held
 
 -- an act that is not lent a window, nor staging: what it answers and leaves is what the call tells, whatever base, window and staging are, and these
 -- are left as they are

@@ -16,7 +16,7 @@ ghost use Rattle.rules.specs.View.{view};
 ghost use Rattle.act.specs.Lent.{_⇒_};
 ghost use Rattle.act.specs.Parts.{Arrays, ordered, tabled, counted, taking};
 ghost use Rattle.answers.specs.Answers.{packed, left, readBy};
-ghost use Rattle.direct.specs.Direct.{leftOf, coreIn, Aside, Feeds, Heeds, RunsFed, freshBy, saved, savedBy, loadedBy};
+ghost use Rattle.direct.specs.Direct.{leftOf, SparedBy, coreIn, Aside, Feeds, Heeds, RunsFed, freshBy, saved, savedBy, loadedBy};
 
 // The answer of a call, and the device after it.
 pub struct Entered {
@@ -83,7 +83,7 @@ fn handed_back(r: Done) -> Fed
 // ---- the calls, on a device by value
 
 fn fresh_by(d: Device, ignore_masks: u32, mode: u32) -> Entered
-    ensures { λ r. ⌜ left (r .answer) (view (r .device)) [] [] [] ≡ freshBy (view d) «ignore_masks» mode ⌝ }
+    ensures { λ r. ⌜ (left (r .answer) (view (r .device)) [] [] [] ≡ freshBy (view d) «ignore_masks» mode) × SparedBy (r .answer) (d .priorities) (r .device .priorities) ⌝ }
 {
     if 1 < ignore_masks {
         return Entered {
@@ -122,7 +122,7 @@ fn write_by(
     journal: &mut [u8],
     used: u64,
 ) -> Fed
-    ensures { λ r. ⌜ ((x : Arrays) → (Feeds (write address size value) k r (ordered (tabled (counted x (now (pending .entry))) (now (table .entry))) (now (priorities .entry)) (k .chip)) (ordered (tabled (counted x (now (pending .exit))) (now (table .exit))) (now (priorities .exit)) (k .chip)) ⇒ journal) used) ⌝ }
+    ensures { λ r. ⌜ ((x : Arrays) → (Feeds (write address size value) k r (ordered (tabled (counted x (now (pending .entry))) (now (table .entry))) (now (priorities .entry)) (k .chip)) (ordered (tabled (counted x (now (pending .exit))) (now (table .exit))) (now (priorities .exit)) (k .chip)) ⇒ journal) used) × SparedBy (r .answer) (now (priorities .entry)) (now (priorities .exit)) ⌝ }
 {
     handed_back(registers::write_in(
         core_in(k),
@@ -207,7 +207,7 @@ fn run_by(
     journal: &mut [u8],
     used: u64,
 ) -> Fed
-    ensures { λ r. ⌜ ((x : Arrays) → (RunsFed (run time pace) base k r x ⇒ window ⇒ staging ⇒ journal ⇒ table ⇒ busy ⇒ majors ⇒ pending ⇒ priorities) used) ⌝ }
+    ensures { λ r. ⌜ ((x : Arrays) → (RunsFed (run time pace) base k r x ⇒ window ⇒ staging ⇒ journal ⇒ table ⇒ busy ⇒ majors ⇒ pending ⇒ priorities) used) × SparedBy (r .answer) (now (priorities .entry)) (now (priorities .exit)) ⌝ }
 {
     handed_back(engine::run_in(
         false,
@@ -243,7 +243,7 @@ fn service_by(
     journal: &mut [u8],
     used: u64,
 ) -> Fed
-    ensures { λ r. ⌜ ((x : Arrays) → (RunsFed (service time pace) base k r x ⇒ window ⇒ staging ⇒ journal ⇒ table ⇒ busy ⇒ majors ⇒ pending ⇒ priorities) used) ⌝ }
+    ensures { λ r. ⌜ ((x : Arrays) → (RunsFed (service time pace) base k r x ⇒ window ⇒ staging ⇒ journal ⇒ table ⇒ busy ⇒ majors ⇒ pending ⇒ priorities) used) × SparedBy (r .answer) (now (priorities .entry)) (now (priorities .exit)) ⌝ }
 {
     handed_back(engine::run_in(
         true,
@@ -265,7 +265,7 @@ fn service_by(
 }
 
 fn take_back_by(d: Device, base: u32, window: &mut [u8], journal: &mut [u8], used: u64) -> Entered
-    ensures { λ r. ⌜ left (r .answer) (view (r .device)) (now (window .exit)) [] (now (journal .exit)) ≡ leftOf (afterBack base (view d) (now (window .entry)) (now (journal .entry)) used) ⌝ }
+    ensures { λ r. ⌜ (left (r .answer) (view (r .device)) (now (window .exit)) [] (now (journal .exit)) ≡ leftOf (afterBack base (view d) (now (window .entry)) (now (journal .entry)) used)) × SparedBy (r .answer) (d .priorities) (r .device .priorities) ⌝ }
 {
     answered(back::take_back(d, base, window, journal, used as usize))
 }
@@ -283,7 +283,7 @@ fn save_by(d: Device, image: &mut [u8]) -> u64
 }
 
 fn load_by(d: Device, image: &[u8]) -> Entered
-    ensures { λ r. ⌜ left (r .answer) (view (r .device)) [] [] [] ≡ loadedBy (view d) (now (image .entry)) ⌝ }
+    ensures { λ r. ⌜ (left (r .answer) (view (r .device)) [] [] [] ≡ loadedBy (view d) (now (image .entry))) × SparedBy (r .answer) (d .priorities) (r .device .priorities) ⌝ }
 {
     if !image::is_image(image) {
         return Entered {
@@ -301,7 +301,7 @@ fn load_by(d: Device, image: &[u8]) -> Entered
 
 #[no_mangle]
 pub extern "C" fn kp_device_fresh(d: &mut Device, ignore_masks: u32, mode: u32) -> u64
-    ensures { λ r. ⌜ left r (view (now (d .exit))) [] [] [] ≡ freshBy (view (now (d .entry))) «ignore_masks» mode ⌝ }
+    ensures { λ r. ⌜ (left r (view (now (d .exit))) [] [] [] ≡ freshBy (view (now (d .entry))) «ignore_masks» mode) × SparedBy r (now (d .entry) .priorities) (now (d .exit) .priorities) ⌝ }
 {
     let e = fresh_by(*d, ignore_masks, mode);
     *d = e.device;
@@ -324,7 +324,7 @@ pub extern "C" fn kp_device_write(
     journal: &mut [u8],
     used: u64,
 ) -> u64
-    ensures { λ r. ⌜ Aside (write address size value) (view (now (d .entry))) (view (now (d .exit))) (now (journal .entry)) (now (journal .exit)) used r ⌝ }
+    ensures { λ r. ⌜ (Aside (write address size value) (view (now (d .entry))) (view (now (d .exit))) (now (journal .entry)) (now (journal .exit)) used r) × SparedBy r (now (d .entry) .priorities) (now (d .exit) .priorities) ⌝ }
 {
     let k = Short {
         scalars: d.scalars,
@@ -358,7 +358,7 @@ pub extern "C" fn kp_device_inputs(
     journal: &mut [u8],
     used: u64,
 ) -> u64
-    ensures { λ r. ⌜ Aside (inputs standing lines0 lines1 lines2) (view (now (d .entry))) (view (now (d .exit))) (now (journal .entry)) (now (journal .exit)) used r ⌝ }
+    ensures { λ r. ⌜ (Aside (inputs standing lines0 lines1 lines2) (view (now (d .entry))) (view (now (d .exit))) (now (journal .entry)) (now (journal .exit)) used r) × SparedBy r (now (d .entry) .priorities) (now (d .exit) .priorities) ⌝ }
 {
     let k = Short {
         scalars: d.scalars,
@@ -389,7 +389,7 @@ pub extern "C" fn kp_device_pending(
     journal: &mut [u8],
     used: u64,
 ) -> u64
-    ensures { λ r. ⌜ Aside (pendingCall channel count) (view (now (d .entry))) (view (now (d .exit))) (now (journal .entry)) (now (journal .exit)) used r ⌝ }
+    ensures { λ r. ⌜ (Aside (pendingCall channel count) (view (now (d .entry))) (view (now (d .exit))) (now (journal .entry)) (now (journal .exit)) used r) × SparedBy r (now (d .entry) .priorities) (now (d .exit) .priorities) ⌝ }
 {
     let k = Short {
         scalars: d.scalars,
@@ -410,7 +410,7 @@ pub extern "C" fn kp_device_acknowledge(
     journal: &mut [u8],
     used: u64,
 ) -> u64
-    ensures { λ r. ⌜ Aside (ack (ipl % 2 ^ 8)) (view (now (d .entry))) (view (now (d .exit))) (now (journal .entry)) (now (journal .exit)) used r ⌝ }
+    ensures { λ r. ⌜ (Aside (ack (ipl % 2 ^ 8)) (view (now (d .entry))) (view (now (d .exit))) (now (journal .entry)) (now (journal .exit)) used r) × SparedBy r (now (d .entry) .priorities) (now (d .exit) .priorities) ⌝ }
 {
     let k = Short {
         scalars: d.scalars,
@@ -432,7 +432,7 @@ pub extern "C" fn kp_device_run(
     journal: &mut [u8],
     used: u64,
 ) -> u64
-    ensures { λ r. ⌜ left r (view (now (d .exit))) (now (window .exit)) (now (staging .exit)) (now (journal .exit)) ≡ leftOf (after (run time pace) base (view (now (d .entry))) (now (window .entry)) (now (staging .entry)) (now (journal .entry)) used) ⌝ }
+    ensures { λ r. ⌜ (left r (view (now (d .exit))) (now (window .exit)) (now (staging .exit)) (now (journal .exit)) ≡ leftOf (after (run time pace) base (view (now (d .entry))) (now (window .entry)) (now (staging .entry)) (now (journal .entry)) used)) × SparedBy r (now (d .entry) .priorities) (now (d .exit) .priorities) ⌝ }
 {
     let k = Short {
         scalars: d.scalars,
@@ -471,7 +471,7 @@ pub extern "C" fn kp_device_service(
     journal: &mut [u8],
     used: u64,
 ) -> u64
-    ensures { λ r. ⌜ left r (view (now (d .exit))) (now (window .exit)) (now (staging .exit)) (now (journal .exit)) ≡ leftOf (after (service time pace) base (view (now (d .entry))) (now (window .entry)) (now (staging .entry)) (now (journal .entry)) used) ⌝ }
+    ensures { λ r. ⌜ (left r (view (now (d .exit))) (now (window .exit)) (now (staging .exit)) (now (journal .exit)) ≡ leftOf (after (service time pace) base (view (now (d .entry))) (now (window .entry)) (now (staging .entry)) (now (journal .entry)) used)) × SparedBy r (now (d .entry) .priorities) (now (d .exit) .priorities) ⌝ }
 {
     let k = Short {
         scalars: d.scalars,
@@ -507,7 +507,7 @@ pub extern "C" fn kp_device_take_back(
     journal: &mut [u8],
     used: u64,
 ) -> u64
-    ensures { λ r. ⌜ left r (view (now (d .exit))) (now (window .exit)) [] (now (journal .exit)) ≡ leftOf (afterBack base (view (now (d .entry))) (now (window .entry)) (now (journal .entry)) used) ⌝ }
+    ensures { λ r. ⌜ (left r (view (now (d .exit))) (now (window .exit)) [] (now (journal .exit)) ≡ leftOf (afterBack base (view (now (d .entry))) (now (window .entry)) (now (journal .entry)) used)) × SparedBy r (now (d .entry) .priorities) (now (d .exit) .priorities) ⌝ }
 {
     let e = take_back_by(*d, base, window, journal, used);
     *d = e.device;
@@ -525,7 +525,7 @@ pub extern "C" fn kp_device_save(d: &Device, image: &mut [u8]) -> u64
 // And read from them, if they are an image.
 #[no_mangle]
 pub extern "C" fn kp_device_load(d: &mut Device, image: &[u8]) -> u64
-    ensures { λ r. ⌜ left r (view (now (d .exit))) [] [] [] ≡ loadedBy (view (now (d .entry))) (now (image .entry)) ⌝ }
+    ensures { λ r. ⌜ (left r (view (now (d .exit))) [] [] [] ≡ loadedBy (view (now (d .entry))) (now (image .entry))) × SparedBy r (now (d .entry) .priorities) (now (d .exit) .priorities) ⌝ }
 {
     let e = load_by(*d, image);
     *d = e.device;

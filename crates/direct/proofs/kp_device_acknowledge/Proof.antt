@@ -57,7 +57,7 @@ use Prim.Native.Nat.{_%_}
 use Rattle.rules.specs.Calls.{ack}
 use Rattle.act.specs.Parts.{Arrays, arraysOf, taking}
 use Rattle.rules.specs.View.{view}
-use Rattle.direct.specs.Direct.{Aside, Heeds}
+use Rattle.direct.specs.Direct.{Aside, Heeds, SparedBy}
 use Rattle.direct.proofs.Apart.{mach, Fields, Back, apart, together, cell-in, cell-out}
 use Rattle.direct.proofs.acknowledge_by as by′
 use Rattle.direct.proofs.acknowledge_by.Symbol as by-def
@@ -125,7 +125,7 @@ module _ {M : Type 1} (𝓤 : URA M) (H : Heap 𝓤) (A : Atoms 𝓤) (W : Given
   Said r zs-taken zs-j = (x : Arrays) → Heeds (ack (n % 2 ^ 8)) k r (taking x (h .taken)) (taking x zs-taken) ys-j zs-j u
 
   abbrev Says : ℕ → List ℕ → List ℕ → Type 0
-  Says r zs-taken zs-j = Aside (ack (n % 2 ^ 8)) (view h) (view (left-in zs-taken)) ys-j zs-j u (r)
+  Says r zs-taken zs-j = (Aside (ack (n % 2 ^ 8)) (view h) (view (left-in zs-taken)) ys-j zs-j u (r)) × SparedBy (r) (h .priorities) ((left-in zs-taken) .priorities)
 
   exits : (r : ℕ) (zs-taken zs-j : List ℕ) → r < 2 ^ 64 → Says r zs-taken zs-j → length zs-j ≡ length ys-j
       → ent 𝓤 (⋆ 𝓤 H A (‵ (fobs γ (T.the-row .coded .code (left-in zs-taken))) ∷ ‵ (fbor κ0 (Body (mem T.the-row) b o γ)) ∷ ‵ (flft κ0 q0) ∷ (‵ (flft κ1 q1) ⊛ ‵ ftrue) ∷ ‵ (finally u8 γ-j zs-j) ∷ [])) (Post (vint w64 (r)))
@@ -176,7 +176,7 @@ module _ {M : Type 1} (𝓤 : URA M) (H : Heap 𝓤) (A : Atoms 𝓤) (W : Given
         move ! (1 ∷ 0 ∷ 6 ∷ 7 ∷ 8 ∷ []) $ use1 W (‵ (cellAt fullShare (T.the-row .mir) (mach (left-in (zs .1 .1 .0)) ∷ []) b o)) (W .laws .at-raw fullShare T′.mir b o (mach (left-in (zs .1 .1 .0)))) $ closes ! tt T.the-row (left-in (zs .1 .1 .0)) (mach (left-in (zs .1 .1 .0)) ∷ []) b o $ move ! (3 ∷ 4 ∷ []) $ join ! $
         returns ! (look ! 30 refl) $ forget ! 6 refl $ forget ! 8 refl $ forget ! 10 refl $ forget ! 12 refl $ forget ! 14 refl $ forget ! 16 refl $ forget ! 18 refl $ forget ! 20 refl $ forget ! 22 refl $ forget ! 24 refl $ forget ! 26 refl $ forget ! 28 refl $ forget ! 30 refl $
         move ! (30 ∷ 31 ∷ []) $ free1 ! $ move ! (28 ∷ 29 ∷ []) $ free1 ! $ move ! (26 ∷ 27 ∷ []) $ free1 ! $ move ! (24 ∷ 25 ∷ []) $ free1 ! $ move ! (22 ∷ 23 ∷ []) $ free1 ! $ move ! (20 ∷ 21 ∷ []) $ free1 ! $ move ! (18 ∷ 19 ∷ []) $ free1 ! $ move ! (16 ∷ 17 ∷ []) $ free1 ! $ move ! (14 ∷ 15 ∷ []) $ free1 ! $ move ! (12 ∷ 13 ∷ []) $ free1 ! $ move ! (10 ∷ 11 ∷ []) $ free1 ! $ move ! (8 ∷ 9 ∷ []) $ free1 ! $ move ! (6 ∷ 7 ∷ []) $ free1 ! $ free0 ! $
-        keep ! (1 ∷ 2 ∷ 3 ∷ 0 ∷ 5 ∷ []) $ by ! (exits r (zs .1 .1 .0) (zs .1 .1 .1 .0) (is .1) (e (arraysOf h) (typed-proper h g)) l-j)))))))))))))))))))))))))
+        keep ! (1 ∷ 2 ∷ 3 ∷ 0 ∷ 5 ∷ []) $ by ! (exits r (zs .1 .1 .0) (zs .1 .1 .1 .0) (is .1) ((e (arraysOf h) (typed-proper h g), λ n is. refl)) l-j)))))))))))))))))))))))))
 
 module _ {M : Type 1} (𝓤 : URA M) (H : Heap 𝓤) (A : Atoms 𝓤) (W : Given 𝓤 H A) (mem : Memory → SProp 𝓤) (run : Routine → Fun 𝓤) where
   walks : (C : Calls 𝓤 H) (Λ : Loops 𝓤 H) → FmC 𝓤 H (W .laws) C → Triple 𝓤 (C #by) (By 𝓤 H A mem run) → Walks 𝓤 H A f.ended stayed (WpFn 𝓤 H C Λ code.function) (f.clauses 𝓤 H A mem run)

@@ -44,7 +44,7 @@ use Rattle.rules.proofs.Device as T
 use Rattle.rules.proofs.Device.Laws as T′
 use Rattle.rules.specs.View.{view}
 use Rattle.answers.specs.Answers.{left}
-use Rattle.direct.specs.Direct.{freshBy}
+use Rattle.direct.specs.Direct.{freshBy, SparedBy}
 use Rattle.direct.specs.declared.Entered.{Entered}
 use Rattle.direct.proofs.Entered as E
 use Rattle.direct.proofs.Entered.Laws as E′
@@ -92,7 +92,7 @@ module _ {M : Type 1} (𝓤 : URA M) (H : Heap 𝓤) (A : Atoms 𝓤) (W : Given
   goes = qed W ((‵ ftrue) ∷ ‵ (T.the-row .own h (mach h ∷ [])) ∷ []) ∵ nothing ! $ owned ! u32 (Is u32) (uint-makes 𝓤 H A W w32) m _ (refl, m-fits) $ fjoin ! $ owned ! u32 (Is u32) (uint-makes 𝓤 H A W w32) n _ (refl, n-fits) $ fjoin ! $ move ! (2 ∷ 0 ∷ []) $ fjoin ! $ move ! (1 ∷ 0 ∷ []) $ join ! $ frame ! $ done !
 
   abbrev Said : Entered → Type 0
-  Said r = left (r .answer) (view (r .device)) [] [] [] ≡ freshBy (view h) n m
+  Said r = (left (r .answer) (view (r .device)) [] [] [] ≡ freshBy (view h) n m) × SparedBy (r .answer) (h .priorities) ((r .device) .priorities)
 
   exits : (r : Entered) → r .answer < 2 ^ 64 → Said r
       → ent 𝓤 (⋆ 𝓤 H A (‵ (fobs γ (T.the-row .coded .code (r .device))) ∷ ‵ (fbor κ0 (Body (mem T.the-row) b o γ)) ∷ ‵ (flft κ0 q0) ∷ (‵ ftrue) ∷ [])) (Post (vint w64 (r .answer)))

@@ -46,7 +46,7 @@ use Rattle.rules.proofs.Device as T
 use Rattle.rules.proofs.Device.Laws as T′
 use Rattle.rules.specs.View.{view}
 use Rattle.answers.specs.Answers.{left}
-use Rattle.direct.specs.Direct.{loadedBy}
+use Rattle.direct.specs.Direct.{loadedBy, SparedBy}
 use Rattle.direct.specs.declared.Entered.{Entered}
 use Rattle.direct.proofs.Entered as E
 use Rattle.direct.proofs.Entered.Laws as E′
@@ -100,7 +100,7 @@ module _ {M : Type 1} (𝓤 : URA M) (H : Heap 𝓤) (A : Atoms 𝓤) (W : Given
   goes = qed W ((‵ (flft κ1 q1) ⊛ ‵ ftrue) ∷ ‵ (T.the-row .own h (mach h ∷ [])) ∷ ‵ (ShrSlice (named 0) κ1 u8 .own x-i (s-i ∷ [])) ∷ []) ∵ nothing ! $ move ! (3 ∷ 0 ∷ []) $ fjoin ! $ move ! (2 ∷ 0 ∷ []) $ fjoin ! $ move ! (1 ∷ 0 ∷ []) $ join ! $ frame ! $ done !
 
   abbrev Said : Entered → Type 0
-  Said r = left (r .answer) (view (r .device)) [] [] [] ≡ loadedBy (view h) ys-i
+  Said r = (left (r .answer) (view (r .device)) [] [] [] ≡ loadedBy (view h) ys-i) × SparedBy (r .answer) (h .priorities) ((r .device) .priorities)
 
   exits : (r : Entered) → r .answer < 2 ^ 64 → Said r
       → ent 𝓤 (⋆ 𝓤 H A (‵ (fobs γ (T.the-row .coded .code (r .device))) ∷ ‵ (fbor κ0 (Body (mem T.the-row) b o γ)) ∷ ‵ (flft κ0 q0) ∷ (‵ (flft κ1 q1) ⊛ ‵ ftrue) ∷ [])) (Post (vint w64 (r .answer)))

@@ -58,7 +58,7 @@ use Rattle.rules.specs.Calls.{after, run as runCall}
 use Rattle.act.specs.Parts.{Arrays, arraysOf}
 use Rattle.rules.specs.View.{view}
 use Rattle.answers.specs.Answers.{left}
-use Rattle.direct.specs.Direct.{leftOf, RunsFed}
+use Rattle.direct.specs.Direct.{leftOf, RunsFed, SparedBy}
 use Rattle.direct.specs.declared.Fed.{Fed}
 use Rattle.direct.proofs.Fed as E
 use Rattle.direct.proofs.Fed.Laws as E′
@@ -153,10 +153,10 @@ module _ {M : Type 1} (𝓤 : URA M) (H : Heap 𝓤) (A : Atoms 𝓤) (W : Given
   goes α-table α-busy α-majors α-pending α-priorities γ-table γ-busy γ-majors γ-pending γ-priorities is = qed W (((‵ (flft κ1 q1) ⊛ ‵ (flft (α-table ∷ []) fullShare) ⊛ ‵ (flft (α-busy ∷ []) fullShare) ⊛ ‵ (flft (α-majors ∷ []) fullShare) ⊛ ‵ (flft (α-pending ∷ []) fullShare) ⊛ ‵ (flft (α-priorities ∷ []) fullShare) ⊛ ‵ (flft κ2 q2) ⊛ ‵ (flft κ3 q3) ⊛ ‵ ftrue) ⊛ ‵ (MutSlice (named 0) κ1 u8 .own x-w (s-w ∷ [])) ⊛ ‵ (MutRef (named 1) (α-table ∷ []) (Array u8 2048) .own (x-table γ-table) (vptr b (o + 72) ∷ [])) ⊛ ‵ (MutRef (named 2) (α-busy ∷ []) (Array u64 64) .own (x-busy γ-busy) (vptr b (o + 2120) ∷ [])) ⊛ ‵ (MutRef (named 3) (α-majors ∷ []) (Array u64 64) .own (x-majors γ-majors) (vptr b (o + 2632) ∷ [])) ⊛ ‵ (MutRef (named 4) (α-pending ∷ []) (Array u32 64) .own (x-pending γ-pending) (vptr b (o + 4680) ∷ [])) ⊛ ‵ (MutRef (named 5) (α-priorities ∷ []) (Array u8 64) .own (x-priorities γ-priorities) (vptr b (o + 4936) ∷ [])) ⊛ ‵ (MutSlice (named 6) κ2 u8 .own x-s (s-s ∷ [])) ⊛ ‵ (MutSlice (named 7) κ3 u8 .own x-j (s-j ∷ []))) ∷ []) ∵ split ! $ move ! (1 ∷ []) $ split ! $ move ! (1 ∷ []) $ split ! $ move ! (1 ∷ []) $ split ! $ move ! (1 ∷ []) $ split ! $ move ! (1 ∷ []) $ split ! $ move ! (1 ∷ []) $ split ! $ move ! (1 ∷ []) $ split ! $ nothing ! $ owned ! u64 (Is u64) (uint-makes 𝓤 H A W w64) u _ (refl, u-fits) $ fjoin ! $ move ! (2 ∷ 0 ∷ []) $ fjoin ! $ move ! (1 ∷ 0 ∷ []) $ fjoin ! $ move ! (1 ∷ 0 ∷ []) $ fjoin ! $ move ! (1 ∷ 0 ∷ []) $ fjoin ! $ move ! (1 ∷ 0 ∷ []) $ fjoin ! $ move ! (1 ∷ 0 ∷ []) $ fjoin ! $ move ! (1 ∷ 0 ∷ []) $ fjoin ! $ move ! (1 ∷ 0 ∷ []) $ fjoin ! $ owned ! u32 (Is u32) (uint-makes 𝓤 H A W w32) base _ (refl, base-fits) $ fjoin ! $ owned ! u64 (Is u64) (uint-makes 𝓤 H A W w64) p _ (refl, p-fits) $ fjoin ! $ owned ! u64 (Is u64) (uint-makes 𝓤 H A W w64) t _ (refl, t-fits) $ fjoin ! $ owned ! K.the-row (Is K.the-row) ((LL.makes K.the-type K′.the-plain) 𝓤 H A) k _ is $ fjoin ! $ move ! (1 ∷ 0 ∷ []) $ join ! $ frame ! $ done !
 
   abbrev Said : Fed → List ℕ → List ℕ → List ℕ → List ℕ → List ℕ → List ℕ → List ℕ → List ℕ → Type 0
-  Said r zs-table zs-busy zs-majors zs-pending zs-priorities zs-w zs-s zs-j = (x : Arrays) → RunsFed (runCall t p) base k r x ys-w zs-w ys-s zs-s ys-j zs-j (h .table) zs-table (h .busy) zs-busy (h .majors) zs-majors (h .pending) zs-pending (h .priorities) zs-priorities u
+  Said r zs-table zs-busy zs-majors zs-pending zs-priorities zs-w zs-s zs-j = ((x : Arrays) → RunsFed (runCall t p) base k r x ys-w zs-w ys-s zs-s ys-j zs-j (h .table) zs-table (h .busy) zs-busy (h .majors) zs-majors (h .pending) zs-pending (h .priorities) zs-priorities u) × SparedBy (r .answer) (h .priorities) (zs-priorities)
 
   abbrev Says : Fed → List ℕ → List ℕ → List ℕ → List ℕ → List ℕ → List ℕ → List ℕ → List ℕ → Type 0
-  Says r zs-table zs-busy zs-majors zs-pending zs-priorities zs-w zs-s zs-j = left (r .answer) (view (ended r zs-table zs-busy zs-majors zs-pending zs-priorities)) zs-w zs-s zs-j ≡ leftOf (after (runCall t p) base (view h) ys-w ys-s ys-j u)
+  Says r zs-table zs-busy zs-majors zs-pending zs-priorities zs-w zs-s zs-j = (left (r .answer) (view (ended r zs-table zs-busy zs-majors zs-pending zs-priorities)) zs-w zs-s zs-j ≡ leftOf (after (runCall t p) base (view h) ys-w ys-s ys-j u)) × SparedBy (r .answer) (h .priorities) ((ended r zs-table zs-busy zs-majors zs-pending zs-priorities) .priorities)
 
   -- what closing the borrow asks: of each field, what the answer says of it, or what is known of it behind the call
   made : (r : Fed) (zs-table zs-busy zs-majors zs-pending zs-priorities : List ℕ) → Is T.the-row (left-in zs-table zs-busy zs-majors zs-pending zs-priorities) (mach (left-in zs-table zs-busy zs-majors zs-pending zs-priorities) ∷ []) → AreAll (fields E.the-type) (E.the-type .to r) (valss (fields E.the-type) (LL.spells (E.the-type .parts) E′.the-laws) (E.the-type .to r)) → Is T.the-row (ended r zs-table zs-busy zs-majors zs-pending zs-priorities) (mach (ended r zs-table zs-busy zs-majors zs-pending zs-priorities) ∷ [])
@@ -241,7 +241,7 @@ module _ {M : Type 1} (𝓤 : URA M) (H : Heap 𝓤) (A : Atoms 𝓤) (W : Given
         owned ! T.the-row (Is T.the-row) ((LL.makes T.the-type T′.the-plain) 𝓤 H A) (ended r (zs .1 .1 .1 .1 .1 .0) (zs .1 .1 .1 .1 .1 .1 .0) (zs .1 .1 .1 .1 .1 .1 .1 .0) (zs .1 .1 .1 .1 .1 .1 .1 .1 .0) (zs .1 .1 .1 .1 .1 .1 .1 .1 .1 .0)) _ (made r (zs .1 .1 .1 .1 .1 .0) (zs .1 .1 .1 .1 .1 .1 .0) (zs .1 .1 .1 .1 .1 .1 .1 .0) (zs .1 .1 .1 .1 .1 .1 .1 .1 .0) (zs .1 .1 .1 .1 .1 .1 .1 .1 .1 .0) g′ (LL.owed E.the-type E′.the-laws r _ is)) $ move ! (1 ∷ 0 ∷ 10 ∷ 11 ∷ 12 ∷ []) $ use1 W (‵ (cellAt fullShare (T.the-row .mir) (mach (ended r (zs .1 .1 .1 .1 .1 .0) (zs .1 .1 .1 .1 .1 .1 .0) (zs .1 .1 .1 .1 .1 .1 .1 .0) (zs .1 .1 .1 .1 .1 .1 .1 .1 .0) (zs .1 .1 .1 .1 .1 .1 .1 .1 .1 .0)) ∷ []) b o)) (W .laws .at-raw fullShare T′.mir b o (mach (ended r (zs .1 .1 .1 .1 .1 .0) (zs .1 .1 .1 .1 .1 .1 .0) (zs .1 .1 .1 .1 .1 .1 .1 .0) (zs .1 .1 .1 .1 .1 .1 .1 .1 .0) (zs .1 .1 .1 .1 .1 .1 .1 .1 .1 .0)))) $ closes ! tt T.the-row (ended r (zs .1 .1 .1 .1 .1 .0) (zs .1 .1 .1 .1 .1 .1 .0) (zs .1 .1 .1 .1 .1 .1 .1 .0) (zs .1 .1 .1 .1 .1 .1 .1 .1 .0) (zs .1 .1 .1 .1 .1 .1 .1 .1 .1 .0)) (mach (ended r (zs .1 .1 .1 .1 .1 .0) (zs .1 .1 .1 .1 .1 .1 .0) (zs .1 .1 .1 .1 .1 .1 .1 .0) (zs .1 .1 .1 .1 .1 .1 .1 .1 .0) (zs .1 .1 .1 .1 .1 .1 .1 .1 .1 .0)) ∷ []) b o $ move ! (3 ∷ 4 ∷ []) $ join ! $ move ! (4 ∷ 0 ∷ []) $ join ! $ move ! (4 ∷ 0 ∷ []) $ join ! $
         returns ! (look ! 58 refl) $ forget ! 8 refl $ forget ! 10 refl $ forget ! 12 refl $ forget ! 14 refl $ forget ! 16 refl $ forget ! 18 refl $ forget ! 20 refl $ forget ! 22 refl $ forget ! 24 refl $ forget ! 26 refl $ forget ! 28 refl $ forget ! 30 refl $ forget ! 32 refl $ forget ! 34 refl $ forget ! 36 refl $ forget ! 38 refl $ forget ! 40 refl $ forget ! 42 refl $ forget ! 44 refl $ forget ! 46 refl $ forget ! 48 refl $ forget ! 50 refl $ forget ! 52 refl $ forget ! 54 refl $ forget ! 56 refl $ forget ! 58 refl $
         move ! (58 ∷ 59 ∷ []) $ free1 ! $ move ! (56 ∷ 57 ∷ []) $ free1 ! $ move ! (54 ∷ 55 ∷ []) $ free1 ! $ move ! (52 ∷ 53 ∷ []) $ free1 ! $ move ! (50 ∷ 51 ∷ []) $ free1 ! $ move ! (48 ∷ 49 ∷ []) $ free1 ! $ move ! (46 ∷ 47 ∷ []) $ free1 ! $ move ! (44 ∷ 45 ∷ []) $ free1 ! $ move ! (42 ∷ 43 ∷ []) $ free1 ! $ move ! (40 ∷ 41 ∷ []) $ free1 ! $ move ! (38 ∷ 39 ∷ []) $ free1 ! $ move ! (36 ∷ 37 ∷ []) $ free1 ! $ move ! (34 ∷ 35 ∷ []) $ free1 ! $ move ! (32 ∷ 33 ∷ []) $ free1 ! $ move ! (30 ∷ 31 ∷ []) $ free1 ! $ move ! (28 ∷ 29 ∷ []) $ free1 ! $ move ! (26 ∷ 27 ∷ []) $ free1 ! $ move ! (24 ∷ 25 ∷ []) $ free1 ! $ move ! (22 ∷ 23 ∷ []) $ free1 ! $ move ! (20 ∷ 21 ∷ []) $ free1 ! $ move ! (18 ∷ 19 ∷ []) $ free1 ! $ move ! (16 ∷ 17 ∷ []) $ free1 ! $ move ! (14 ∷ 15 ∷ []) $ free1 ! $ move ! (12 ∷ 13 ∷ []) $ free1 ! $ move ! (10 ∷ 11 ∷ []) $ free1 ! $ move ! (8 ∷ 9 ∷ []) $ free1 ! $ free0 ! $
-        keep ! (1 ∷ 2 ∷ 3 ∷ 0 ∷ 7 ∷ 6 ∷ 5 ∷ []) $ by ! (exits r (zs .1 .1 .1 .1 .1 .0) (zs .1 .1 .1 .1 .1 .1 .0) (zs .1 .1 .1 .1 .1 .1 .1 .0) (zs .1 .1 .1 .1 .1 .1 .1 .1 .0) (zs .1 .1 .1 .1 .1 .1 .1 .1 .1 .0) (zs .1 .1 .1 .1 .0) (zs .1 .1 .1 .1 .1 .1 .1 .1 .1 .1 .0) (zs .1 .1 .1 .1 .1 .1 .1 .1 .1 .1 .1 .0) (LL.owed E.the-type E′.the-laws r _ is .0 .1) (e (arraysOf h) (typed-proper h g)) l-w l-s l-j))))))))))))))))))))))))))))))))))))))))))))))))
+        keep ! (1 ∷ 2 ∷ 3 ∷ 0 ∷ 7 ∷ 6 ∷ 5 ∷ []) $ by ! (exits r (zs .1 .1 .1 .1 .1 .0) (zs .1 .1 .1 .1 .1 .1 .0) (zs .1 .1 .1 .1 .1 .1 .1 .0) (zs .1 .1 .1 .1 .1 .1 .1 .1 .0) (zs .1 .1 .1 .1 .1 .1 .1 .1 .1 .0) (zs .1 .1 .1 .1 .0) (zs .1 .1 .1 .1 .1 .1 .1 .1 .1 .1 .0) (zs .1 .1 .1 .1 .1 .1 .1 .1 .1 .1 .1 .0) (LL.owed E.the-type E′.the-laws r _ is .0 .1) ((e .0 (arraysOf h) (typed-proper h g), e .1)) l-w l-s l-j))))))))))))))))))))))))))))))))))))))))))))))))
 
 module _ {M : Type 1} (𝓤 : URA M) (H : Heap 𝓤) (A : Atoms 𝓤) (W : Given 𝓤 H A) (mem : Memory → SProp 𝓤) (run : Routine → Fun 𝓤) where
   walks : (C : Calls 𝓤 H) (Λ : Loops 𝓤 H) → FmC 𝓤 H (W .laws) C → Triple 𝓤 (C #by) (By 𝓤 H A mem run) → Walks 𝓤 H A f.ended stayed (WpFn 𝓤 H C Λ code.function) (f.clauses 𝓤 H A mem run)

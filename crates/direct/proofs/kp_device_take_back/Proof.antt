@@ -48,7 +48,7 @@ use Rattle.rules.proofs.Device.Laws as T′
 use Rattle.rules.specs.Calls.{afterBack}
 use Rattle.rules.specs.View.{view}
 use Rattle.answers.specs.Answers.{left}
-use Rattle.direct.specs.Direct.{leftOf}
+use Rattle.direct.specs.Direct.{leftOf, SparedBy}
 use Rattle.direct.specs.declared.Entered.{Entered}
 use Rattle.direct.proofs.Entered as E
 use Rattle.direct.proofs.Entered.Laws as E′
@@ -108,7 +108,7 @@ module _ {M : Type 1} (𝓤 : URA M) (H : Heap 𝓤) (A : Atoms 𝓤) (W : Given
   goes = qed W ((‵ (flft κ1 q1) ⊛ ‵ (flft κ2 q2) ⊛ ‵ ftrue) ∷ ‵ (T.the-row .own h (mach h ∷ [])) ∷ (‵ (MutSlice (named 0) κ1 u8 .own x-w (s-w ∷ [])) ⊛ ‵ (MutSlice (named 1) κ2 u8 .own x-j (s-j ∷ []))) ∷ []) ∵ move ! (2 ∷ []) $ split ! $ nothing ! $ owned ! u64 (Is u64) (uint-makes 𝓤 H A W w64) u _ (refl, u-fits) $ fjoin ! $ move ! (2 ∷ 0 ∷ []) $ fjoin ! $ move ! (1 ∷ 0 ∷ []) $ fjoin ! $ owned ! u32 (Is u32) (uint-makes 𝓤 H A W w32) base _ (refl, base-fits) $ fjoin ! $ move ! (2 ∷ 0 ∷ []) $ fjoin ! $ move ! (1 ∷ 0 ∷ []) $ join ! $ frame ! $ done !
 
   abbrev Said : Entered → List ℕ → List ℕ → Type 0
-  Said r zs-w zs-j = left (r .answer) (view (r .device)) zs-w [] zs-j ≡ leftOf (afterBack base (view h) ys-w ys-j u)
+  Said r zs-w zs-j = (left (r .answer) (view (r .device)) zs-w [] zs-j ≡ leftOf (afterBack base (view h) ys-w ys-j u)) × SparedBy (r .answer) (h .priorities) ((r .device) .priorities)
 
   exits : (r : Entered) (zs-w zs-j : List ℕ) → r .answer < 2 ^ 64 → Said r zs-w zs-j → length zs-w ≡ length ys-w → length zs-j ≡ length ys-j
       → ent 𝓤 (⋆ 𝓤 H A (‵ (fobs γ (T.the-row .coded .code (r .device))) ∷ ‵ (fbor κ0 (Body (mem T.the-row) b o γ)) ∷ ‵ (flft κ0 q0) ∷ (‵ (flft κ1 q1) ⊛ ‵ (flft κ2 q2) ⊛ ‵ ftrue) ∷ ‵ (finally u8 γ-w zs-w) ∷ ‵ (finally u8 γ-j zs-j) ∷ [])) (Post (vint w64 (r .answer)))
