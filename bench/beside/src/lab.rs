@@ -3,7 +3,7 @@
 use crate::call::Call;
 use crate::compare::Beside;
 use crate::world::World;
-use kounpheray::{Channel, Device, Field, Mode, Settings, Tcd, Time};
+use kounpheray::{Channel, Device, Field, Mode, Tcd, Time};
 use oracle::Oracle;
 
 /// Where the window begins if a case does not say.
@@ -76,7 +76,7 @@ pub fn memory(len: usize) -> Vec<u8> {
 
 /// A fresh device in a mode.
 pub fn fresh(mode: Mode) -> Device {
-    Device::with(Settings { mode, ..Settings::default() })
+    Device::builder().mode(mode).build()
 }
 
 /// A device in the old mode in which one channel has one request pending.

@@ -5,7 +5,7 @@
 use crate::call::Call;
 use crate::difference;
 use crate::world::{seen, World};
-use kounpheray::{Device, Field, Mode, Settings, Time, IMAGE};
+use kounpheray::{Device, Field, Mode, Time, IMAGE};
 use std::ops::Range;
 
 pub const FORMAT: &str = "\
@@ -125,7 +125,7 @@ impl Begin {
     }
 
     pub fn device(&self) -> Device {
-        Device::with(Settings { mode: self.mode, ignore_masks: self.ignore_masks })
+        Device::builder().mode(self.mode).ignore_masks(self.ignore_masks).build()
     }
 }
 

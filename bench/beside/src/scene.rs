@@ -7,8 +7,8 @@ use crate::random::Random;
 use crate::recorded::place;
 use crate::world::World;
 use kounpheray::{
-    csr, Channel, Controller, Device, DmaRegister, Field, Mode, Register, Settings, Source, Tcd,
-    TcdField, Time, TCD,
+    csr, Channel, Controller, Device, DmaRegister, Field, Mode, Register, Source, Tcd, TcdField,
+    Time, TCD,
 };
 
 /// A device, its memory, and which channels have descriptors.
@@ -38,7 +38,7 @@ impl Scene {
 
     pub fn of(random: &mut Random, mode: Mode) -> Scene {
         let (base, window) = memory(random);
-        let device = Device::with(Settings { mode, ignore_masks: random.once_in(6) });
+        let device = Device::builder().mode(mode).ignore_masks(random.once_in(6)).build();
         let mut channels: Vec<Channel> = (0..=random.below(5)).map(|_| channel(random)).collect();
         if random.once_in(4) {
             channels.push(Channel::PACED);
@@ -115,7 +115,7 @@ impl Scene {
         let base = 0x8000_0000;
         let mut window = vec![0; 512];
         random.fill(&mut window);
-        let device = Device::with(Settings { mode: Mode::Chip, ignore_masks: false });
+        let device = Device::builder().mode(Mode::Chip).build();
         let count = random.pick(&[2, 3, 3, 5, 12, 40]);
         let channels: Vec<Channel> = (0..count).map(|_| channel(random)).collect();
         let nodes = vec![base + 256, base + 300];

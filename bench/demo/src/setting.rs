@@ -2,7 +2,7 @@
 
 use kounpheray::{
     csr, Bench, Channel, Controller, ControllerRegister, Count, Device, DmaRegister, Mode, Refusal,
-    Select, Settings, Size, Source, Tcd, Time,
+    Select, Size, Source, Tcd, Time,
 };
 
 /// Moves the voice's blocks into the ring.
@@ -39,7 +39,7 @@ pub const RING: u32 = BASE + 0x800;
 
 /// A fresh device with the registers written as a driver would.
 pub fn bench(mode: Mode) -> Result<Bench, Refusal> {
-    let device = Device::with(Settings { mode, ..Settings::default() });
+    let device = Device::builder().mode(mode).build();
     let mut bench = Bench::new(BASE, vec![0xFF; 0x1000]).with_device(device);
     let ring = (RING_BLOCKS * BLOCK) as u32;
     let loops = Count::Plain(RING_BLOCKS as u16).raw();

@@ -332,9 +332,9 @@ impl Bench {
     /// turns is one minor loop of the channel that comes first by its priority:
     ///
     /// ```
-    /// use kounpheray::{csr, Bench, Channel, Device, DmaRegister, Mode, Settings, Tcd, Time};
+    /// use kounpheray::{csr, Bench, Channel, Device, DmaRegister, Mode, Tcd, Time};
     ///
-    /// let device = Device::with(Settings { mode: Mode::Chip, ..Settings::default() });
+    /// let device = Device::builder().mode(Mode::Chip).build();
     /// let mut bench = Bench::new(0x8000_0000, b"ab....".to_vec()).with_device(device);
     /// for (n, channel) in [Channel::new(3), Channel::new(9)].into_iter().enumerate() {
     ///     // Both to the same place, and two minor loops long.

@@ -87,17 +87,20 @@ impl Device {
     /// A fresh device in the old mode: zero in every field, except masks (all
     /// ones) and deadline (2^64 - 1).
     pub fn fresh() -> Device {
-        Device::with(Settings::default())
+        Device::builder().build()
     }
 
     /// A fresh device in the old mode that ignores the controllers' masks.
     pub fn ignoring_masks() -> Device {
-        Device::with(Settings { ignore_masks: true, ..Settings::default() })
+        Device::builder().ignore_masks(true).build()
     }
 
-    /// A fresh device with these settings. In the chip's mode each channel's
-    /// priority is its own number.
-    pub fn with(settings: Settings) -> Device {
+    /// Builds a device with chosen settings, from those of [`Device::fresh`].
+    pub fn builder() -> Settings {
+        Settings::default()
+    }
+
+    pub(crate) fn with(settings: Settings) -> Device {
         let mut device = Device::zero();
         let Settings { mode, ignore_masks } = settings;
         let answer = ffi::fresh(&mut device, ignore_masks.into(), mode.number().into());
@@ -277,10 +280,10 @@ mod tests {
     use crate::entries::{self, LentJournal};
     use crate::field::Field;
     use crate::register::{DmaRegister, Register};
-    use crate::settings::{Mode, Settings};
+    use crate::settings::Mode;
 
     fn in_mode(mode: Mode) -> Device {
-        Device::with(Settings { mode, ..Settings::default() })
+        Device::builder().mode(mode).build()
     }
 
     fn fields(mode: Mode) -> impl Iterator<Item = Field> {
@@ -292,7 +295,7 @@ mod tests {
     #[test]
     fn every_field_lies_where_the_archive_has_it() {
         for mode in Mode::ALL {
-            let mut device = Device::with(Settings { mode, ignore_masks: true });
+            let mut device = Device::builder().mode(mode).ignore_masks(true).build();
             for (n, field) in fields(mode).enumerate() {
                 let value = (n as u64 + 1).wrapping_mul(0x9E37_79B9_7F4A_7C15);
                 device.set(field, value >> (64 - field.bits())).expect("as many bits as it has");

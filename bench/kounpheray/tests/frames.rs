@@ -2,7 +2,7 @@
 
 use kounpheray::{csr, Tcd, Time};
 use kounpheray::{Act, Bench, Channel, Controller, DmaRegister, Field, Refusal, Select, Size};
-use kounpheray::{Device, Mode, Settings};
+use kounpheray::{Device, Mode};
 
 const CHANNEL: Channel = Channel::new(7);
 const AT_ONCE: Time = Time { now: 0, pace: 0 };
@@ -14,7 +14,7 @@ fn bench(journal: usize) -> Bench {
 }
 
 fn bench_of(mode: Mode, journal: usize) -> Bench {
-    let device = Device::with(Settings { mode, ..Settings::default() });
+    let device = Device::builder().mode(mode).build();
     let bench = Bench::new(0x4000_0000, (0..16).collect()).with_device(device);
     let mut bench = bench.with_journal(journal);
     let tcd = Tcd {

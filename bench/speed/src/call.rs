@@ -3,8 +3,8 @@
 
 use kounpheray::entries::{self, Answer, Lent, LentJournal};
 use kounpheray::{
-    csr, Channel, Controller, ControllerRegister, Device, DmaRegister, Field, Mode, Register,
-    Settings, Size, Source, Tcd, TcdField, Time,
+    csr, Channel, Controller, ControllerRegister, Device, DmaRegister, Field, Mode, Register, Size,
+    Source, Tcd, TcdField, Time,
 };
 use oracle::Oracle;
 use std::hint::black_box;
@@ -137,7 +137,7 @@ fn device(call: Call) -> Device {
         Call::Idle(mode) | Call::Loops { mode, .. } => mode,
         _ => Mode::Old,
     };
-    let mut device = Device::with(Settings { mode, ..Settings::default() });
+    let mut device = Device::builder().mode(mode).build();
     let mut put = |field, value| device.set(field, value).expect("the value fits");
     match call {
         Call::Acknowledge => {
