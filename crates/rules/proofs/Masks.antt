@@ -39,14 +39,14 @@ half_below w x h = halve (2 ^ w) (subst (λ (p : ℕ). x < p) (pow-suc 2 w) h)
 
 -- ---- each bit of two masks joined
 
-bit_and : (a b i : ℕ) → bit (bit_and a b) i ≡ min (bit a i) (bit b i)
-bit_and a b i = ap (λ (x : ℕ). x % 2) (and_shr a b i ∙ and_step (a / 2 ^ i) (b / 2 ^ i)) ∙ digits_mod _ (low (bit_lt a i) (bit_lt b i))
+bit_and_lem : (a b i : ℕ) → bit (bit_and a b) i ≡ min (bit a i) (bit b i)
+bit_and_lem a b i = ap (λ (x : ℕ). x % 2) (and_shr a b i ∙ and_step (a / 2 ^ i) (b / 2 ^ i)) ∙ digits_mod _ (low (bit_lt a i) (bit_lt b i))
   where
     low : {x y : ℕ} → x < 2 → y < 2 → min x y < 2
     low h k = omega arith
 
-bit_or : (a b i : ℕ) → bit (bit_or a b) i ≡ max (bit a i) (bit b i)
-bit_or a b i = ap (λ (x : ℕ). x % 2) (or_shr a b i ∙ or_step (a / 2 ^ i) (b / 2 ^ i)) ∙ digits_mod _ (low (bit_lt a i) (bit_lt b i))
+bit_or_lem : (a b i : ℕ) → bit (bit_or a b) i ≡ max (bit a i) (bit b i)
+bit_or_lem a b i = ap (λ (x : ℕ). x % 2) (or_shr a b i ∙ or_step (a / 2 ^ i) (b / 2 ^ i)) ∙ digits_mod _ (low (bit_lt a i) (bit_lt b i))
   where
     low : {x y : ℕ} → x < 2 → y < 2 → max x y < 2
     low h k = omega arith
@@ -146,14 +146,14 @@ lose_less m i b = lt_of_le-ne (lose_le m i) (λ e. apart (bit m i) (sym (lose-sa
 
 pub gain-same : (m i : ℕ) → bit (gain m i) i ≡ 1
 unfolding gain
-gain-same m i = bit_or m (2 ^ i) i ∙ ap (λ (b : ℕ). max (bit m i) b) (bit_pow_same i) ∙ top (bit_lt m i)
+gain-same m i = bit_or_lem m (2 ^ i) i ∙ ap (λ (b : ℕ). max (bit m i) b) (bit_pow_same i) ∙ top (bit_lt m i)
   where
     top : {n : ℕ} → n < 2 → max n 1 ≡ 1
     top h = omega arith
 
 pub gain_other : (m i j : ℕ) → (i ≡ j → ⊥) → bit (gain m i) j ≡ bit m j
 unfolding gain
-gain_other m i j h = bit_or m (2 ^ i) j ∙ ap (λ (b : ℕ). max (bit m j) b) (bit_pow_other i j h) ∙ same (bit m j)
+gain_other m i j h = bit_or_lem m (2 ^ i) j ∙ ap (λ (b : ℕ). max (bit m j) b) (bit_pow_other i j h) ∙ same (bit m j)
   where
     same : (n : ℕ) → max n 0 ≡ n
     same n = omega arith
@@ -173,11 +173,11 @@ digits_all P a b c d (suc (suc x)) y h k = absurd (omega arith)
 module _ (a b i : ℕ) where
   pub has_and : has (bit_and a b) i ≡ (has a i && has b i)
   has_and =
-      ap (λ (x : ℕ). eqb x 1) (bit_and a b i) ∙ digits_all (λ x y. eqb (min x y) 1 ≡ (eqb x 1 && eqb y 1)) refl refl refl refl (bit a i) (bit b i) (bit_lt a i) (bit_lt b i)
+      ap (λ (x : ℕ). eqb x 1) (bit_and_lem a b i) ∙ digits_all (λ x y. eqb (min x y) 1 ≡ (eqb x 1 && eqb y 1)) refl refl refl refl (bit a i) (bit b i) (bit_lt a i) (bit_lt b i)
 
   pub has_or : has (bit_or a b) i ≡ (has a i || has b i)
   has_or =
-      ap (λ (x : ℕ). eqb x 1) (bit_or a b i) ∙ digits_all (λ x y. eqb (max x y) 1 ≡ (eqb x 1 || eqb y 1)) refl refl refl refl (bit a i) (bit b i) (bit_lt a i) (bit_lt b i)
+      ap (λ (x : ℕ). eqb x 1) (bit_or_lem a b i) ∙ digits_all (λ x y. eqb (max x y) 1 ≡ (eqb x 1 || eqb y 1)) refl refl refl refl (bit a i) (bit b i) (bit_lt a i) (bit_lt b i)
 
   pub has-without : has (without a b) i ≡ (has a i && not (has b i))
   has-without =

@@ -80,6 +80,8 @@ module _ (base : ℕ) (lent : Lent) where
         | true ↦ aside_full q r (proper-store base u p table a n v)
         | false ↦ refl
       ]
+  aside_full {A = A} (at_fetch {sp = window} {a = a} {n = n} {k = k} h q) u p = elim h [ ]
+  aside_full {A = A} (at_store {sp = window} {a = a} {n = n} {v = v} {k = k} h q) u p = elim h [ ]
   aside_full (at_ask {f} q) u p = aside_full (q (holds f u.now.dev) (holds_fits f u.now.dev p.sound)) u p
   aside_full (at_put {f} {v} h q) u p = aside_full q (cutting f v u) (proper-put f v u p)
   aside_full (at_look {s} q) u p = aside_full (q (setting_of s u.now.dev)) u p

@@ -84,7 +84,7 @@ pub record Underway (base : ℕ) (u v : World) : Type 0 where
   pub log : List Rec
   pub used_is : v.used ≡ u.used ++ lines_of log
   pub undone : undo base log (as_in u.now.dev v.now) ≡ u.now
-  pub all_sound_lem : AllSound base u.now log
+  pub all_sound : AllSound base u.now log
   pub alike : Alike u.now v.now
   pub good : Good base v.now
   pub total_is : total v ≡ total u
@@ -96,7 +96,7 @@ module _ (base : ℕ) (u : World) (entry : Good base u.now) where
     log = [];
     used_is = sym (append-nil u.used);
     undone = refl;
-    all_sound_lem = tt;
+    all_sound = tt;
     alike = record { mem_is = refl; table_is = refl; ignore_is = refl; chip_is = refl };
     good = entry;
     total_is = refl;
@@ -116,7 +116,7 @@ module _ (base : ℕ) (u : World) (entry : Good base u.now) where
         undone =
             undo_append base h.log (r ∷ []) _
             ∙ ap (undo base h.log) (store_back base sp a n x v.now u.now.dev h.good.mem_bytes h.good.sound-dev.table-bytes) ∙ h.undone;
-        all_sound_lem = all_append base h.log (r ∷ []) u.now h.all_sound (old_sound, tt);
+        all_sound = all_append base h.log (r ∷ []) u.now h.all_sound (old_sound, tt);
         alike = alike-store base sp a n x v.now h.alike;
         good = good_store base sp a n x v.now h.good;
         total_is = omega (arith, length-append v.used (line_of r), length_rec r, length-drop 16 v.free, h.total_is);
@@ -142,7 +142,7 @@ module _ (base : ℕ) (u : World) (entry : Good base u.now) where
         undone =
             ap (λ t. undo base h.log (record { mem = v.now.mem; dev = with_table u.now.dev t })) (put_law f y v.now.dev h.good.sound-dev.three).table
             ∙ h.undone;
-        all_sound_lem = h.all_sound;
+        all_sound = h.all_sound;
         alike = alike-put f y v.now h.good.sound-dev h.alike;
         good = good_put base f x v.now h.good;
         total_is = h.total_is;
@@ -169,7 +169,7 @@ module _ (base : ℕ) (u : World) (entry : Good base u.now) where
 pub record Led (base : ℕ) (u v : Seen) : Type 0 where
   pub group : List Rec
   pub used_is : v.used ≡ u.used ++ group_bytes group
-  pub all_sound_lem : AllSound base v.now group
+  pub all_sound : AllSound base v.now group
   pub few : length group < 256 ^ 8
   pub undone : undo base group v.now ≡ u.now
 
@@ -205,7 +205,7 @@ module _ (base : ℕ) (u : World) (entry : Good base u.now) (small : total u ≤
         record {
           group = g;
           used_is = used;
-          all_sound_lem = all_same base g v.now u.now h.alike all;
+          all_sound = all_same base g v.now u.now h.alike all;
           few = omega (arith, sum, ap length used, length-append u.used (group_bytes g), length_group g);
           undone =
               undo_append base h.log f v.now

@@ -19,7 +19,7 @@ use denote.Struct.Declared.{row}
 use denote.Struct.Laws.{val}
 use Rattle.rules.specs.contracts.Device.{the_type}
 use Rattle.rules.proofs.Device.TheLaws.{the_laws}
-use Rattle.rules.specs.contracts.Controller.{the_field}
+use Rattle.rules.specs.contracts.Controller.{the_row as the-controller}
 use Rattle.rules.specs.contracts.Scalars.{the_field as the-scalars, the_type as the-scalars-type}
 use Rattle.rules.proofs.Scalars.TheLaws.{the_laws as the-scalars-laws}
 use Rattle.rules.specs.State.{Controller}
@@ -43,7 +43,7 @@ TypedScalars s = Is (row the-scalars-type) s (val the-scalars-type the-scalars-l
 
 -- an array of numbers
 within_each : (own : ℕ → List Val → Fml) (b : ℕ) → ((x : ℕ) (u : Val) → shadow (own x (u ∷ [])) → x < 2 ^ b)
-    → (n : ℕ) (xs : List ℕ) (us : List Val) → length xs ≡ n → shadow (each ℕ own (map (λ v. v) xs) us) → Within (replicate n b) xs
+    → (n : ℕ) (xs : List ℕ) (us : List Val) → length xs ≡ n → shadow (each ℕ own xs us) → Within (replicate n b) xs
 within_each own b h zero [] us e s = tt
 within_each own b h zero (x ∷ xs) us e s = absurd (not-suc-le-zero (le_of_eq e))
 within_each own b h (suc n) [] us e s = absurd (not-suc-le-zero (le_of_eq (sym e)))
@@ -58,7 +58,7 @@ low_bits b (suc n) [] e = absurd (not-suc-le-zero (le_of_eq (sym e)))
 low_bits b (suc n) (x ∷ xs) e = (mod-lt x (pow_pos b), low_bits b n xs (suc_inj e))
 
 -- an array of bytes
-bytes_each : (xs : List ℕ) (us : List Val) → shadow (each ℕ u8-field.row.own_val (map (λ v. v) xs) us) → Bytes xs
+bytes_each : (xs : List ℕ) (us : List Val) → shadow (each ℕ u8-field.row.own_val xs us) → Bytes xs
 bytes_each [] us s i = lit< tt
 bytes_each (x ∷ xs) [] s i = absurd s
 bytes_each (x ∷ xs) (u ∷ us) s zero = search (rules, s.0)
@@ -72,7 +72,7 @@ record Fits (c : Controller) : Type 0 where
   config : c.config < 2 ^ 16
   levels : Within (replicate 64 8) c.levels
 
-each_fits : (cs : List HeldController) (us : List Val) → shadow (each the_field.row.Denot the_field.row.own_val (map the_field.into cs) us)
+each_fits : (cs : List HeldController) (us : List Val) → shadow (each the-controller.Denot the-controller.own_val cs us)
     → (i : ℕ) → i < length cs → Fits (controller (map view_controller cs) i)
 each_fits [] us s i h = absurd (not-suc-le-zero h)
 each_fits (c ∷ cs) [] s i h = absurd s
@@ -103,7 +103,7 @@ unfolding bit_parts bits_of parts_of own_of
 sound d g =
     let t = g.1.1.1 in
     let cs = t.1.1.1.1.1.1.0 in
-    let three : length d.controllers ≡ 3 = sym (length-map d.controllers the_field.into) ∙ cs.1.0.1 in
+    let three : length d.controllers ≡ 3 = search (rules, cs) in
     let k : (i : ℕ) → i < 3 → Fits (controller (map view_controller d.controllers) i) = λ i l. each_fits d.controllers _ cs.1.1 i (omega arith) in
     let a = k 0 (lit< tt) in
     let b = k 1 (lit< tt) in
