@@ -1,5 +1,6 @@
 // The judge of captures: takes a descriptor (64 hexadecimal digits), CR (up to 8) and the name of a file of records, and prints one line; docs/CAPTURE.md
 // has all of them. Why a file could not be opened or read goes to standard error.
+#![tactic(auto)]
 use libc::STDOUT_FILENO;
 
 fn main() {

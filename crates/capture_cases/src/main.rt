@@ -1,4 +1,5 @@
 // A test of the judge's program: a line for each way that a capture can come out, and lists that are longer than a piece.
+#![tactic(auto)]
 use libc::STDOUT_FILENO;
 
 // "Run only": one word.

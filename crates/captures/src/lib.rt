@@ -1,5 +1,6 @@
 // Document 02, [2]: what the judge of a capture answers. The rules of judging are in specs/Capture.antt, their theorems in proofs/; the code that
 // judges is crate `judge`.
+#![tactic(auto)]
 
 // What the rules ask for next: a read (address, width), a write (address, width, value), or no more accesses.
 #[derive(Drop)]

@@ -2,6 +2,7 @@
 // Each takes the device behind a reference. An act copies its core, is lent those of its arrays that it reads or changes, where they lie, and stores
 // numbers and controllers when it comes back; the others copy the device. The contract is that of the call. A function over a reference to a struct is
 // proved by a walk by hand: so each of these is one call, some stores and one number.
+#![tactic(auto)]
 ghost use Rattle.std.specs.Prelude.{[], ◌≡◌, ◌%◌, ◌^◌};
 ghost use Rattle.rules.specs.Calls.{verdict_number, after, after_back, after_read, write, inputs, pending as pending_call, run, service, ack};
 ghost use Rattle.rules.specs.View.{view};

@@ -1,5 +1,6 @@
 // The journal printer: prints the journal file that its argument names, one record a line. Where it stops short of the file's end it says at
 // which record and byte, on standard error.
+#![tactic(auto)]
 use libc::{STDERR_FILENO, STDOUT_FILENO};
 
 fn main() {

@@ -1,5 +1,6 @@
 // A test of the journal printer: journals that it cannot print to the end, and one that is longer than a piece. Here the line that says where it
 // stopped goes to standard output too, so that it is compared.
+#![tactic(auto)]
 use libc::STDOUT_FILENO;
 
 fn print(path: &[u8]) {

@@ -1,4 +1,5 @@
 // A journal's records as text: "prints one record a line".
+#![tactic(auto)]
 mod print;
 
 ghost use Rattle.std.specs.Prelude.{◌≡◌, ◌+◌, ◌*◌, ◌/◌, ◌%◌, ◌≤◌, ◌<◌, length, set};

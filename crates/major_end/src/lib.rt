@@ -1,6 +1,7 @@
 // What follows the transfer of a minor loop: the descriptor's new addresses, count and `csr`, the flags, the links, and the major end.
 // Each contract says that the function does the steps of its tree (crate `rules`, specs/Minor.antt), whatever the rest of the world is.
 // Quoted words are document 01's; names are those of the Rust, where it has them.
+#![tactic(auto)]
 ghost use Rattle.std.specs.Prelude.{◌≡◌, ◌+◌, ◌*◌, ◌%◌, ◌^◌, ◌<◌, [], ◌++◌, length};
 ghost use Rattle.rules.specs.Act.{change, when, MAJORS};
 ghost use Rattle.rules.specs.Scalars.{INT, ERQ, KICK};

@@ -1,4 +1,5 @@
 // Document 01's marked examples, as compiled code computes them. The rules compute the same table: crates/rules/proofs/Marked.antt.
+#![tactic(auto)]
 use libc::STDOUT_FILENO;
 
 // One number of an example, after what it is.

@@ -1,4 +1,5 @@
 // A file read a piece at a time: as much as is there, or until a read fails.
+#![tactic(auto)]
 ghost use Rattle.std.specs.Prelude.{◌+◌, ◌≤◌, length};
 
 use libc::SEEK_SET;

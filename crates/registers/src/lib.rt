@@ -2,6 +2,7 @@
 // value and the call is lent the arrays that it can read or change (`.._in`); and on a device by value, which it takes apart and puts together.
 // What is wrong with the arguments is tested in the order of document 01's numbers, before anything is done. What an act can have changed is
 // compared at its end: the fields of numbers 0 to 27, and of the arrays those that it is lent.
+#![tactic(auto)]
 ghost use Rattle.std.specs.Prelude.{true, false, ◌≡◌, suc, ◌%◌, ◌^◌, ◌≤◌, ◌<◌, length};
 ghost use Rattle.std.proofs.Math.Option.{some};
 ghost use Rattle.rules.specs.declared.Heard.TheVariants as Heard;

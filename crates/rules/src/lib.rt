@@ -1,5 +1,6 @@
 // The types of the engine, by value: descriptors, controllers, the device, and what the calls answer.
 // What they mean is defined in specs/, by document 01.
+#![tactic(auto)]
 
 // A descriptor: 32 big-endian bytes of the table, in this order. The names are those of the Rust.
 #[derive(Drop)]

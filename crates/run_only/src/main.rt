@@ -1,4 +1,5 @@
 // Document 01's 'Run only' example: one channel with START moves four bytes. The used part of the journal is written, one record a line.
+#![tactic(auto)]
 ghost use Rattle.std.specs.Prelude.{◌<◌};
 
 use libc::STDOUT_FILENO;

@@ -1,0 +1,10 @@
+-- `words::swap2` meets its contract: each byte at its place; above the highest there is nothing. Assumes nothing.
+use Rattle.std.proofs.Common.{◌≡◌, ◌/◌, ◌%◌, add-zero, mod-eq_of_lt, mul-one, div-one, arith, rules}
+use Rattle.rules.specs.Bytes.{bytes, number}
+use Rattle.words.proofs.swap2.Goals as goal
+
+pub returns : goal.returns
+unfolding bytes number
+returns c =
+    let top : c.args.v / 256 % 256 ≡ c.args.v / 256 = mod-eq_of_lt (omega arith) in
+    simp (div-one, top, mul-one, add-zero)
