@@ -64,27 +64,37 @@ class Function:
 
     def chain(self, start, befores, rest):
         """`c` with so many `.before`s, at the place, and then a path: today's path."""
-        i = self.places.get(start)
-        if i is None and start.endswith("-unread"):
-            i = self.places.get(start[: -len("-unread")])
-        for _ in range(befores):
-            i = None if i is None else self.parent(i)
         if not rest:
             return "c" if befores == 0 else None
-        if rest[0] in FIXED:
-            word = rest[0].replace("type-inv", "type_inv")
+        word = re.sub(r"_lem$", "", rest[0]).replace("type-inv", "type_inv").replace("well-formed", "well_formed")
+        if word in FIXED:
             return ".".join(["c", word] + rest[1:])
+        rest = [word] + rest[1:]
+        # the line of steps up to the start; today's may have more of them, so that the nearest of the name counts
+        line, i = [], self.places.get(start)
+        if i is None and start.endswith("-unread"):
+            i = self.places.get(start[: -len("-unread")])
         while i is not None:
+            line.append(i)
+            i = self.parent(i)
+        found = []
+        for depth, i in enumerate(line):
+            arm = self.d["arms"][i] if i < len(self.d["arms"]) else None
+            if arm:
+                for field, step, path in arm[2]:
+                    if plain(step) == plain(rest[0]) and path and [plain(p) for p in path] == [plain(r) for r in rest[1 : 1 + len(path)]]:
+                        found.append((abs(depth - befores), depth, -len(path), ".".join(["c", arm[0], field] + rest[1 + len(path) :])))
             old, new = self.d["places"][i][2]
             if plain(old) == plain(rest[0]) or plain(new) == plain(rest[0]):
-                return self.step(i, new, rest)
-            j = self.parent(i)
-            # a step that stands at the same place without a `.before` in between
-            i = j if self.near(i) else None
-        return None
-
-    def near(self, i):
-        return False
+                found.append((abs(depth - befores), depth, 0, self.step(i, new, rest)))
+        if not found:
+            return None
+        best = min(found)
+        # an arm's own name for a fact is better than the step that it came by
+        for f in sorted(found, key=lambda f: (f[2], f[0])):
+            if f[2] < 0 and f[1] <= best[1] + 1 and f[0] <= best[0] + 2:
+                return f[3]
+        return best[3]
 
     def step(self, i, new, rest):
         tail = list(rest[1:])

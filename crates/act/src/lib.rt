@@ -9,14 +9,14 @@ use rules::{Controller, Device, Refusal, Scalars, Verdict};
 // ---- steps
 
 // The numbers that stand alone, and the journal's end.
-#[derive(Drop)]
+#[derive(Clone, Copy)]
 pub struct Flow {
     pub scalars: Scalars,
     pub at: usize,
 }
 
 // Still going, or refused: once refused, nothing more happens.
-#[derive(Drop)]
+#[derive(Clone, Copy)]
 pub enum Step {
     Going(Flow),
     Refused(Refusal, Flow),
@@ -33,7 +33,7 @@ pub fn end_of(s: Step) -> usize
 }
 
 // The same of a function that touches only window and journal: the journal's end.
-#[derive(Drop)]
+#[derive(Clone, Copy)]
 pub enum Walk {
     On(usize),
     Off(Refusal, usize),
@@ -43,7 +43,7 @@ pub enum Walk {
 
 // What of a device is short: its numbers, its controllers and whether masks are ignored. A call hands it on by value; the long arrays are lent to whom they
 // concern.
-#[derive(Drop)]
+#[derive(Clone, Copy)]
 pub struct Core {
     pub scalars: Scalars,
     pub controllers: [Controller; 3],
@@ -51,7 +51,7 @@ pub struct Core {
 }
 
 // What a call came to besides arrays.
-#[derive(Drop)]
+#[derive(Clone, Copy)]
 pub struct Done {
     pub verdict: Verdict,
     pub used: usize,

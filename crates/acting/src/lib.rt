@@ -11,7 +11,7 @@ use closing::Noted;
 use rules::{Refusal, Verdict};
 
 // How far an act came, and the device's core then: on, with the journal's end, or off, and then nothing more happens.
-#[derive(Drop)]
+#[derive(Clone, Copy)]
 pub struct Reached {
     pub walk: Walk,
     pub core: Core,

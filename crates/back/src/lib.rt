@@ -15,7 +15,7 @@ ghost use Rattle.back.specs.Standing.{Finds, machine};
 use rules::{Acted, Device, Refusal, Verdict};
 
 // What stands last in the used journal: a sound group, where it starts and how many records it has before its end; or damage.
-#[derive(Drop)]
+#[derive(Clone, Copy)]
 enum Standing {
     Group(usize, usize),
     Damaged,

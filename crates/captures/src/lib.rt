@@ -3,7 +3,7 @@
 #![tactic(auto)]
 
 // What the rules ask for next: a read (address, width), a write (address, width, value), or no more accesses.
-#[derive(Drop)]
+#[derive(Clone, Copy)]
 pub enum Due {
     Read(u32, u32),
     Write(u32, u32, u32),
@@ -11,14 +11,14 @@ pub enum Due {
 }
 
 // "Whether our rules allow it, or at which access it first departs", counted from 0, and what is due there.
-#[derive(Drop)]
+#[derive(Clone, Copy)]
 pub enum Judged {
     Allowed,
     Departs(u64, Due),
 }
 
 // Why a record is malformed, or "cut".
-#[derive(Drop)]
+#[derive(Clone, Copy)]
 pub enum Flaw {
     Mark,
     Kind,
@@ -28,7 +28,7 @@ pub enum Flaw {
 }
 
 // "22, a malformed or cut record, with its place and no verdict"; else the verdict.
-#[derive(Drop)]
+#[derive(Clone, Copy)]
 pub enum Captured {
     Refused(u64, Flaw),
     Found(Judged),

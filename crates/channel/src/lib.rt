@@ -99,7 +99,7 @@ pub fn start_loop(
 }
 
 // The bytes that the passes of channel 35 summed to; or why they are refused.
-#[derive(Drop)]
+#[derive(Clone, Copy)]
 pub enum Line {
     Sum(u64, Flow),
     Broken(Refusal, Flow),

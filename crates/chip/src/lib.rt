@@ -20,7 +20,7 @@ use rules::{LINE, Refusal, START};
 // ---- what is kept between turns
 
 // The channels that have START, that have a pending count, that are not busy past `now`, and that are passed over.
-#[derive(Drop)]
+#[derive(Clone, Copy)]
 pub struct Kept {
     pub starts: u64,
     pub waits: u64,
@@ -138,7 +138,7 @@ pub fn choose(ready: u64, priorities: &[u8; 64]) -> usize
 // ---- a turn
 
 // How a turn ended: its pass answered yes, or no, or was refused.
-#[derive(Drop)]
+#[derive(Clone, Copy)]
 pub enum Turned {
     Yes(Flow),
     No(Flow),

@@ -18,7 +18,7 @@ use act::Core;
 use rules::{Controller, Scalars};
 
 // Where the next record goes, or that one did not fit: then nothing more happens.
-#[derive(Drop)]
+#[derive(Clone, Copy)]
 pub enum Noted {
     At(usize),
     Full,

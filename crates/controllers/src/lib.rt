@@ -101,7 +101,7 @@ fn driven_by(int: u64, c: usize, k: Controller) -> Controller
 }
 
 // Controllers with their lines, and the level.
-#[derive(Drop)]
+#[derive(Clone, Copy)]
 pub struct Levelled {
     pub controllers: [Controller; 3],
     pub level: u8,
@@ -142,7 +142,7 @@ pub fn update_irq(k: Core) -> Core
 // ---- acknowledge
 
 // A level and where it was found; level 0: nowhere.
-#[derive(Drop)]
+#[derive(Clone, Copy)]
 pub struct Loud {
     pub level: u8,
     pub at: usize,

@@ -226,7 +226,7 @@ pub fn with_priority(d: Device, ch: usize, v: u8) -> Device
 // ---- by number
 
 // Where the field of a number stands: one of the scalars; of a controller, its IMR, FRC, lines or ICONFIG; an element of an array.
-#[derive(Drop)]
+#[derive(Clone, Copy)]
 enum Spot {
     Nowhere,
     Scalar(usize),

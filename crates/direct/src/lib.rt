@@ -15,14 +15,14 @@ use act::{Core, Done};
 use rules::{Acted, Controller, Device, Scalars};
 
 // The answer of a call, and the device after it.
-#[derive(Drop)]
+#[derive(Clone, Copy)]
 pub struct Entered {
     pub answer: u64,
     pub device: Device,
 }
 
 // The same of a call that works on the device's arrays in place: of the rest what the call can change.
-#[derive(Drop)]
+#[derive(Clone, Copy)]
 pub struct Fed {
     pub answer: u64,
     pub scalars: Scalars,
@@ -30,7 +30,7 @@ pub struct Fed {
 }
 
 // What of a device is short, as an entry copies it.
-#[derive(Drop)]
+#[derive(Clone, Copy)]
 pub struct Short {
     pub scalars: Scalars,
     pub controllers: [Controller; 3],

@@ -18,7 +18,7 @@ use memory::Place;
 use rules::Refusal;
 
 // What the addresses step by after each whole size, and with which modulo.
-#[derive(Drop)]
+#[derive(Clone, Copy)]
 pub struct Steps {
     pub soff: u32,
     pub smod: u32,
@@ -27,7 +27,7 @@ pub struct Steps {
 }
 
 // The two addresses after a transfer, and the journal's end; or why it is refused, and the journal's end there.
-#[derive(Drop)]
+#[derive(Clone, Copy)]
 pub enum Moved {
     To(u32, u32, usize),
     Not(Refusal, usize),
@@ -315,7 +315,7 @@ fn move_asking(
 // ---- the quick way. One test before the loop shows that every unit lies in the window and that all records fit: then no unit asks.
 
 // `count` sizes that are one unit each.
-#[derive(Drop)]
+#[derive(Clone, Copy)]
 struct Units {
     width: u32,
     count: u32,

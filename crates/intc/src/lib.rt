@@ -17,7 +17,7 @@ use rules::Controller;
 // ---- reads
 
 // What a register holds, or that there is no such register.
-#[derive(Drop)]
+#[derive(Clone, Copy)]
 pub enum Cell {
     Value(u32),
     Nothing,
@@ -84,7 +84,7 @@ pub fn intc_read(k: Controller, off: u32, size: u32) -> Cell
 // ---- writes
 
 // A controller after a write, and whether there is such a register.
-#[derive(Drop)]
+#[derive(Clone, Copy)]
 pub struct Kept {
     pub known: bool,
     pub controller: Controller,
@@ -221,7 +221,7 @@ pub fn controller_written(k: Controller, off: u32, size: u32, v: u32) -> Kept
 }
 
 // A device's core after a write, and whether there is such a register.
-#[derive(Drop)]
+#[derive(Clone, Copy)]
 pub struct Wrote {
     pub known: bool,
     pub core: Core,

@@ -20,7 +20,7 @@ use rules::Tcd;
 
 // One side of a transfer, source or destination: its size in bytes, the bytes of a unit, how many more units a size has after its first, what an
 // address moves on by after each size, and with which modulo.
-#[derive(Drop)]
+#[derive(Clone, Copy)]
 pub struct Side {
     pub size: u32,
     pub unit: u32,
@@ -30,7 +30,7 @@ pub struct Side {
 }
 
 // Both sides; how many whole destination sizes are written where the sizes differ; whether the 32 fetches of a scatter/gather end follow, and where.
-#[derive(Drop)]
+#[derive(Clone, Copy)]
 pub struct Plan {
     pub source: Side,
     pub dest: Side,
@@ -102,7 +102,7 @@ pub fn plan_of(cr: u32, t: Tcd) -> Plan
 
 // Where a walk stands in a side: whole sizes left after this one, units left in it after this one, this unit's number in it, and where this size is
 // read and written.
-#[derive(Drop)]
+#[derive(Clone, Copy)]
 pub struct Place {
     pub sizes: u32,
     pub left: u32,
@@ -114,7 +114,7 @@ pub struct Place {
 // What comes next. Equal sizes: a unit is to be moved; its value was read and is to be laid down. Unequal sizes: a unit is to be read; or written, with
 // how many whole sizes were written before, and how many accesses were reads. A byte is to be fetched, with how many after it, and from where. Or
 // nothing.
-#[derive(Drop)]
+#[derive(Clone, Copy)]
 pub enum Walk {
     Move(Place),
     Lay(Place, u32),
@@ -403,7 +403,7 @@ fn origin_in(p: Plan, w: Walk) -> u64
 // ---- records
 
 // An access as a record has it; and a record, which holds one or is malformed.
-#[derive(Drop)]
+#[derive(Clone, Copy)]
 pub struct Seen {
     pub read: bool,
     pub address: u32,
@@ -411,7 +411,7 @@ pub struct Seen {
     pub value: u32,
 }
 
-#[derive(Drop)]
+#[derive(Clone, Copy)]
 pub enum Record {
     Fit(Seen),
     Unfit(Flaw),
@@ -520,7 +520,7 @@ fn meets_due(due: Due, x: Seen) -> bool
 // ---- the course of a judgement
 
 // A walk goes on; or an access departed, and records are only looked at; or one of them was malformed.
-#[derive(Drop)]
+#[derive(Clone, Copy)]
 pub enum Course {
     Going(Walk),
     Departed(u64, Due),

@@ -13,7 +13,7 @@ use equal_sizes::{Moved, Steps};
 use rules::Tcd;
 
 // What a pass came to: "count 0: nothing happens and the pass answers no"; or what it left.
-#[derive(Drop)]
+#[derive(Clone, Copy)]
 pub enum Passed {
     Idle,
     Ran(Step),

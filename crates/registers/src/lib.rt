@@ -446,7 +446,7 @@ pub fn pending(d: Device, channel: u32, count: u32, journal: &mut [u8], used: us
 // ---- acknowledge
 
 // What an acknowledge came to besides arrays.
-#[derive(Drop)]
+#[derive(Clone, Copy)]
 pub struct Answered {
     pub done: Done,
     pub heard: Heard,

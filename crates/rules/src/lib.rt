@@ -3,7 +3,7 @@
 #![tactic(auto)]
 
 // A descriptor: 32 big-endian bytes of the table, in this order. The names are those of the Rust.
-#[derive(Drop)]
+#[derive(Clone, Copy)]
 pub struct Tcd {
     pub saddr: u32,
     pub attr: u16,
@@ -40,7 +40,7 @@ pub const LINE: usize = 35;
 
 // One interrupt controller: its masks (IMR), forced sources (FRC), lines, ICONFIG and its 64 level bytes.
 #[repr(C)]
-#[derive(Drop)]
+#[derive(Clone, Copy)]
 pub struct Controller {
     pub masks: u64,
     pub forced: u64,
@@ -51,7 +51,7 @@ pub struct Controller {
 
 // The numbers of a device that stand alone: wide ones first, then narrow ones.
 #[repr(C)]
-#[derive(Drop)]
+#[derive(Clone, Copy)]
 pub struct Scalars {
     pub erq: u64,
     pub eei: u64,
@@ -67,7 +67,7 @@ pub struct Scalars {
 
 // The whole device. Its numbers stand first, then arrays: the order that copies best.
 #[repr(C)]
-#[derive(Drop)]
+#[derive(Clone, Copy)]
 pub struct Device {
     pub scalars: Scalars,
     pub table: [u8; 2048],
@@ -82,7 +82,7 @@ pub struct Device {
 }
 
 // Why a call is refused, in the order of the documents' numbers: 1 to 13 of document 01, 14 of document 02.
-#[derive(Drop)]
+#[derive(Clone, Copy)]
 pub enum Refusal {
     Size,
     Address,
@@ -101,14 +101,14 @@ pub enum Refusal {
 }
 
 // How a call ends.
-#[derive(Drop)]
+#[derive(Clone, Copy)]
 pub enum Verdict {
     Accepted,
     Refused(Refusal),
 }
 
 // What an act answers: how it ended, the journal's used length, the device.
-#[derive(Drop)]
+#[derive(Clone, Copy)]
 pub struct Acted {
     pub verdict: Verdict,
     pub used: usize,
@@ -116,21 +116,21 @@ pub struct Acted {
 }
 
 // What a register read answers.
-#[derive(Drop)]
+#[derive(Clone, Copy)]
 pub enum Reading {
     Value(u32),
     Refused(Refusal),
 }
 
 // What an acknowledge finds: nothing, or a source with its level and vector.
-#[derive(Drop)]
+#[derive(Clone, Copy)]
 pub enum Heard {
     Nothing,
     Source(u8, u8),
 }
 
 // What an acknowledge answers.
-#[derive(Drop)]
+#[derive(Clone, Copy)]
 pub struct Acknowledged {
     pub verdict: Verdict,
     pub heard: Heard,

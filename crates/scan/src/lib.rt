@@ -10,7 +10,7 @@ ghost use Rattle.scan.specs.Heads.{Judges, Scanned, scanning, sound_with};
 use memory::Place;
 
 // What the first 8 bytes of a record leave to its value: the lowest so many of its 64 bits, or, since they are damaged, nothing.
-#[derive(Drop)]
+#[derive(Clone, Copy)]
 enum Head {
     Wide(usize),
     Damaged,

@@ -16,14 +16,14 @@ use memory::Place;
 use rules::Refusal;
 
 // The address after reads; or a byte was outside the window.
-#[derive(Drop)]
+#[derive(Clone, Copy)]
 pub enum Read {
     At(u32),
     Outside,
 }
 
 // The address after writes, and the journal's end; or why they are refused, and the journal's end there.
-#[derive(Drop)]
+#[derive(Clone, Copy)]
 pub enum Wrote {
     To(u32, usize),
     Not(Refusal, usize),
