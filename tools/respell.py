@@ -47,7 +47,7 @@ def main():
             names = set(TOP.findall(texts[f]))
             (known if "/specs/" in f else tops).update(names)
     known |= {n for n in foreign if "-" not in n}
-    whole = re.compile(r"(?<![A-Za-z0-9_'-])[a-z][A-Za-z0-9_'-]*")
+    whole = re.compile(r"(?<![A-Za-z0-9_'\\-])[a-z][A-Za-z0-9_'-]*")
     turned = {}
     for f, t in texts.items():
         for w in whole.findall(t):

@@ -227,7 +227,11 @@ def turn(crate, folder, data, module):
         after = body_text.split("=", 1)[1].strip() if "=" in body_text else ""
         if re.fullmatch(r"search rules", after) or re.fullmatch(r"search \(rules\)", after):
             continue
-        out.append(f.turn(body_text, i).rstrip())
+        said = f.turn(body_text, i).rstrip()
+        # the test of an `if !x` speaks of x itself today
+        said = re.sub(r"\(not-(?:true|false) _ (c\.if-not-[A-Za-z0-9_'.-]*)\)", r"\1", said)
+        said = re.sub(r"not-(?:true|false) _ (c\.if-not-[A-Za-z0-9_'.-]*)", r"\1", said)
+        out.append(said)
         answers.append(out)
     invs = []
     loops = {plain(l[0][0]): (l[0][1], l[1], data["changed"][j]) for j, l in enumerate(data["loops"])}

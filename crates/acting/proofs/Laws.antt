@@ -16,7 +16,7 @@ use Rattle.rules.specs.declared.Heard.TheVariants as Heard
 use Rattle.rules.specs.declared.Refusal.{Refusal}
 use Rattle.rules.specs.declared.Verdict.{Verdict}
 use Rattle.rules.specs.declared.Verdict.TheVariants as Verdict
-use Rattle.rules.proofs.Each.{Proper}
+use Rattle.rules.proofs.Proper.{Proper}
 use Rattle.rules.proofs.Grown.{Longer, Grown, go_grows, journal_grows}
 use Rattle.rules.proofs.Keeps.{AtEnd}
 use Rattle.rules.proofs.Leads.{IfAnswered, proper_kept}

@@ -9,7 +9,7 @@ use Rattle.rules.specs.declared.Heard.TheVariants as Heard
 use Rattle.rules.specs.declared.Refusal.TheVariants as Refusal
 use Rattle.rules.specs.declared.Verdict.{Verdict}
 use Rattle.rules.specs.declared.Verdict.TheVariants as Verdict
-use Rattle.rules.proofs.Each.{Proper}
+use Rattle.rules.proofs.Proper.{Proper}
 use Rattle.act.specs.Parts.{Arrays, tabled, whole, SameLevels, told_done}
 use Rattle.act.specs.Worlds.{came_to, walk_of}
 use Rattle.act.specs.declared.Core.{Core}

@@ -17,7 +17,7 @@ use Rattle.rules.specs.declared.Heard.TheVariants as Heard
 use Rattle.rules.proofs.Along.{Along, make_along, back_along}
 use Rattle.rules.proofs.Bench.{Held, RowCall, ended, ended_amiss, make_held, back_held, walked}
 use Rattle.rules.proofs.Demand3.{Start, same_as_alone, last_taken_back, refused_12_iff_none, refused_only_12}
-use Rattle.rules.proofs.Each.{Proper}
+use Rattle.rules.proofs.Proper.{Proper}
 use Rattle.rules.proofs.Hearing.{Audible}
 use Rattle.rules.proofs.History.{Entry, Walk, walk, Alone}
 use Rattle.rules.proofs.Lasts.{Ending}

@@ -7,7 +7,7 @@ use Rattle.rules.specs.Minor.{descriptor, pass}
 use Rattle.rules.specs.Run.{paced, chip_turns, run_turns}
 use Rattle.rules.specs.State.{Device}
 use Rattle.rules.specs.View.{view_priorities}
-use Rattle.rules.proofs.Each.{Proper}
+use Rattle.rules.proofs.Proper.{Proper}
 use Rattle.act.specs.Worlds.{world, came_to}
 use Rattle.act.specs.declared.Flow.{Flow}
 use Rattle.act.specs.declared.Step.{Step}

@@ -8,7 +8,7 @@ use Rattle.rules.specs.Carry.{changed}
 use Rattle.rules.specs.Fields.{joined, own_of, parts_of, fields_of, controller, masks_of}
 use Rattle.rules.specs.Scalars.{scalar_bits, view_scalars}
 use Rattle.rules.specs.State.{Controller}
-use Rattle.rules.proofs.Each.{Proper}
+use Rattle.rules.proofs.Proper.{Proper}
 use Rattle.rules.proofs.FieldLaws.{sized, levels-long}
 use Rattle.rules.proofs.ViewLaws.{controller_viewed}
 use Rattle.act.specs.Parts.{Arrays, whole, held_at, SameLevels}

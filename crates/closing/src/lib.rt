@@ -8,7 +8,7 @@ ghost use Rattle.rules.specs.View.{view_controller};
 ghost use Rattle.rules.specs.Carry.{line};
 ghost use Rattle.rules.specs.Scalars.{view_scalars};
 ghost use Rattle.rules.specs.Fields.{masks_of};
-ghost use Rattle.rules.proofs.Each.{Proper};
+ghost use Rattle.rules.proofs.Proper.{Proper};
 ghost use Rattle.act.specs.Lent.{◌⇒◌};
 ghost use Rattle.act.specs.Parts.{Arrays, whole, SameLevels};
 ghost use Rattle.closing.specs.declared.Noted.TheVariants.{At};

@@ -4,7 +4,7 @@ use Rattle.rules.specs.Act.{Act}
 use Rattle.rules.specs.With.{with_taken}
 use Rattle.rules.specs.State.{Device}
 use Rattle.rules.specs.declared.Heard.{Heard}
-use Rattle.rules.proofs.Each.{Proper}
+use Rattle.rules.proofs.Proper.{Proper}
 use Rattle.act.specs.Does.{Answers, Does}
 use Rattle.act.specs.Parts.{Arrays, whole, SameLevels}
 use Rattle.act.specs.declared.Core.{Core}

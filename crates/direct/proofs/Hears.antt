@@ -11,7 +11,8 @@ use Rattle.rules.specs.Carry.{World, Out, ok, no, made, unmade, with_device, las
 use Rattle.rules.specs.State.{Device}
 use Rattle.rules.specs.declared.Heard.{Heard}
 use Rattle.rules.proofs.CallLaws.{either_way}
-use Rattle.rules.proofs.Each.{Rights, Proper, Properly, each_keeps}
+use Rattle.rules.proofs.Each.{Rights, Properly, each_keeps}
+use Rattle.rules.proofs.Proper.{Proper}
 use Rattle.rules.proofs.Keeps.{AtEnd}
 use Rattle.rules.proofs.Pieces.{acknowledge_each}
 use Rattle.rules.proofs.Steps.{cutting}

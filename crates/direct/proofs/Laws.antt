@@ -19,7 +19,7 @@ use Rattle.rules.specs.declared.Verdict.{Verdict}
 use Rattle.rules.specs.declared.Verdict.TheVariants as Verdict
 use Rattle.image.specs.Image.{image_of, device_in, is_image}
 use Rattle.act.specs.Parts.{Arrays, whole, told_done}
-use Rattle.rules.proofs.Each.{Proper}
+use Rattle.rules.proofs.Proper.{Proper}
 use Rattle.rules.proofs.Stays.{act_keeps_setting}
 use Rattle.act.specs.declared.Core.{Core}
 use Rattle.act.specs.declared.Done.{Done}

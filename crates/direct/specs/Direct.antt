@@ -2,7 +2,7 @@
 use Rattle.std.specs.Prelude.{cond, ◌&&◌, List, [], ◌≡◌, ℕ, suc, eqb, ltb, length}
 use Rattle.rules.specs.Calls.{Asked, Told, after, fresh}
 use Rattle.rules.specs.State.{Device}
-use Rattle.rules.proofs.Each.{Proper}
+use Rattle.rules.proofs.Proper.{Proper}
 use Rattle.act.specs.Parts.{Arrays, ordered, working, whole}
 use Rattle.act.specs.declared.Core.{Core}
 use Rattle.image.specs.Image.{image_of, device_in, is_image}

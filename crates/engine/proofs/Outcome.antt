@@ -17,7 +17,7 @@ use Rattle.rules.specs.declared.Heard.TheVariants as Heard
 use Rattle.rules.specs.declared.Refusal.{Refusal}
 use Rattle.rules.specs.declared.Verdict.{Verdict}
 use Rattle.rules.specs.declared.Verdict.TheVariants as Verdict
-use Rattle.rules.proofs.Each.{Proper}
+use Rattle.rules.proofs.Proper.{Proper}
 use Rattle.rules.proofs.Keeps.{AtEnd, Good}
 use Rattle.rules.proofs.Took.{Underway, go_underway}
 use Rattle.rules.proofs.Undo.{as_in}

@@ -22,7 +22,8 @@ use Rattle.rules.specs.State.{Device}
 use Rattle.rules.specs.declared.Scalars.{Scalars}
 use Rattle.rules.proofs.BoolLaws.{neither}
 use Rattle.rules.proofs.CallLaws.{passed, window_fits}
-use Rattle.rules.proofs.Each.{Proper, proper_field}
+use Rattle.rules.proofs.Each.{proper_field}
+use Rattle.rules.proofs.Proper.{Proper}
 use Rattle.rules.proofs.Leads.{IfAnswered, proper_kept}
 use Rattle.rules.proofs.Steps.{bind_ok, then_ok, ask-does, put-does, change-does}
 use Rattle.act.specs.Does.{beside, Answers}

@@ -12,7 +12,7 @@ use Rattle.rules.specs.declared.Heard.TheVariants as Heard
 use Rattle.rules.specs.declared.Refusal.{Refusal}
 use Rattle.rules.specs.declared.Scalars.{Scalars}
 use Rattle.rules.specs.declared.Verdict.TheVariants as Verdict
-use Rattle.rules.proofs.Each.{Proper}
+use Rattle.rules.proofs.Proper.{Proper}
 use Rattle.act.specs.Parts.{Arrays, ordered, working, whole, told_done}
 use Rattle.act.specs.Worlds.{came_to, flow_of}
 use Rattle.act.specs.declared.Core.{Core}

@@ -18,7 +18,7 @@ use Rattle.rules.specs.declared.Heard.TheVariants as Heard
 use Rattle.rules.proofs.Along.{Along, make_along, back_along}
 use Rattle.rules.proofs.Bench.{Held, RowCall, act, read, amiss, amiss_back, read_number, ended, ended_amiss, make_held, back_held}
 use Rattle.rules.proofs.CallLaws.{AsGiven, act_as_given, back_as_given}
-use Rattle.rules.proofs.Each.{Proper}
+use Rattle.rules.proofs.Proper.{Proper}
 use Rattle.rules.proofs.Hearing.{Audible, act_hears, back_hears}
 use Rattle.rules.proofs.History.{Entry, Walk, walk, Alone}
 use Rattle.rules.proofs.Lasts.{Ending}

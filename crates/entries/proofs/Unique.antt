@@ -8,7 +8,7 @@ use native.Mathlib.Omega.{arith}
 use Rattle.rules.specs.Calls.{heard_level, heard_vector, Told, told, number_told}
 use Rattle.rules.specs.State.{Device}
 use Rattle.rules.proofs.CallLaws.{AsGiven}
-use Rattle.rules.proofs.Each.{Proper}
+use Rattle.rules.proofs.Proper.{Proper}
 use Rattle.image.specs.Image.{image_of, device_in, is_image}
 use Rattle.image.proofs.Round.{proper_round}
 use Rattle.answers.specs.Answers.{Left, left, left_by, packed}

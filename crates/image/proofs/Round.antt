@@ -19,7 +19,7 @@ use Rattle.rules.specs.With.{with_priorities}
 use Rattle.rules.proofs.BytesLaws.{length_bytes, value_of_bytes, length_part, bytes-part, part_behind, part-first}
 use Rattle.rules.proofs.FieldLaws.{sizes, bit_parts, Sound, sized, levels-long, spot, Real, bits_most, holds_fits_in, holds-number, in_three}
 use Rattle.rules.proofs.Powers.{low-low}
-use Rattle.rules.proofs.Each.{Proper}
+use Rattle.rules.proofs.Proper.{Proper}
 use Rattle.rules.proofs.PartLaws.{Within}
 use Rattle.device.proofs.Laws.{some_to_64}
 use Rattle.image.specs.Image.{laid, setting_bytes, image_of, number_in, numbers_in, scalars_in, controller_in, chip_in, device_in, held_bits, held_in, is_image}

@@ -6,7 +6,7 @@ ghost use Rattle.rules.specs.View.{view_controller};
 ghost use Rattle.rules.specs.Bytes.{bytes, splice};
 ghost use Rattle.rules.specs.Registers.{controller_read, controller_write};
 ghost use Rattle.rules.specs.With.{with_levels};
-ghost use Rattle.rules.proofs.Each.{Proper};
+ghost use Rattle.rules.proofs.Proper.{Proper};
 ghost use Rattle.act.specs.Parts.{Arrays, whole};
 ghost use Rattle.intc.specs.Cells.{reads};
 ghost use Rattle.intc.specs.Writes.{InWord, write_to, command_at, WrittenIn, Written};

@@ -15,12 +15,12 @@ fn sums() {
         8,
     );
     show(
-        b"\n_P2 fffffffe + 4, modulo 0: ",
+        b"\nP2 fffffffe + 4, modulo 0: ",
         words::modulo_add(0xFFFFFFFE, 4, 0) as u64,
         8,
     );
     show(
-        b"\n_P3 ffffffff + 1, modulo 31: ",
+        b"\nP3 ffffffff + 1, modulo 31: ",
         words::modulo_add(0xFFFFFFFF, 1, 31) as u64,
         8,
     );
@@ -29,14 +29,14 @@ fn sums() {
 // The count, its link and the count field after one minor loop.
 fn counts() {
     show(
-        b"\n_P4 count field 8205: count ",
+        b"\nP4 count field 8205: count ",
         words::count_of(0x8205) as u64,
         1,
     );
     show(b", link ", words::link_of(0x8205) as u64, 1);
     show(b", next ", words::recounted(0x8205, 4) as u64, 4);
     let last = words::recounted(0x8201, 0);
-    show(b"\n_P5 count field 8201: next ", last as u64, 4);
+    show(b"\nP5 count field 8201: next ", last as u64, 4);
     show(b", count ", words::count_of(last) as u64, 1);
 }
 

@@ -26,7 +26,7 @@ use Rattle.rules.specs.declared.Verdict.{Verdict}
 use Rattle.rules.specs.declared.Verdict.TheVariants as Verdict
 use Rattle.rules.proofs.BoolLaws.{and_left, and_right, and_both}
 use Rattle.rules.proofs.CallLaws.{wrong-alone}
-use Rattle.rules.proofs.Each.{Proper}
+use Rattle.rules.proofs.Proper.{Proper}
 use Rattle.rules.proofs.FieldLaws.{sized}
 use Rattle.rules.proofs.Told.{refusal_suc}
 use Rattle.rules.proofs.ViewLaws.{map_set, priority_viewed}

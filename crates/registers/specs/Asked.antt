@@ -10,7 +10,7 @@ use Rattle.rules.specs.declared.Acted.{Acted}
 use Rattle.rules.specs.State.{Device}
 use Rattle.rules.specs.declared.Heard.{Heard}
 use Rattle.rules.specs.declared.Heard.TheVariants as Heard
-use Rattle.rules.proofs.Each.{Proper}
+use Rattle.rules.proofs.Proper.{Proper}
 use Rattle.act.specs.Does.{Does}
 use Rattle.act.specs.Parts.{Arrays, whole, SameLevels, told_done}
 use Rattle.act.specs.declared.Core.{Core}

@@ -18,7 +18,8 @@ use Rattle.rules.specs.State.{Device}
 use Rattle.rules.specs.declared.Heard.{Heard}
 use Rattle.rules.specs.declared.Heard.TheVariants as Heard
 use Rattle.rules.proofs.CallLaws.{barred_next, not_stopped, either_way, act_stopped}
-use Rattle.rules.proofs.Each.{Rights, at_done, Proper, Properly, each_keeps, proper_field}
+use Rattle.rules.proofs.Each.{Rights, at_done, Properly, each_keeps, proper_field}
+use Rattle.rules.proofs.Proper.{Proper}
 use Rattle.rules.proofs.Keeps.{AtEnd}
 use Rattle.rules.proofs.Lasts.{act_number}
 use Rattle.rules.proofs.Pieces.{levelled_each}

@@ -12,7 +12,7 @@ use Rattle.rules.specs.declared.Heard.{Heard}
 use Rattle.rules.specs.declared.Heard.TheVariants as Heard
 use Rattle.rules.proofs.Bench.{Held, RowCall, act, read, amiss, amiss_back, ended, make_held, back_held, amiss_ends, amiss_back_ends}
 use Rattle.rules.proofs.BenchWorlds.{world_in, held_of, held-world, held_lasts, make_world, make_through, make_lasts, back_through, wrong_through}
-use Rattle.rules.proofs.Each.{Proper}
+use Rattle.rules.proofs.Proper.{Proper}
 use Rattle.rules.proofs.Lasts.{Ending, Lasts, back_lasts}
 use Rattle.rules.proofs.Stays.{act_keeps-proper, back_keeps-proper}
 use Rattle.rules.proofs.Through.{carried}

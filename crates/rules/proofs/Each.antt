@@ -18,6 +18,7 @@ use Rattle.rules.specs.With.{with_table}
 use Rattle.rules.specs.Carry.{Machine, World, no, bytes_of, with_bytes_of, with_device, index_of, there, legal, fetched, stored, recorded, go, Lent}
 use Rattle.rules.proofs.BytesLaws.{length_part, length_splice, bytes-bytes, bytes-splice}
 use Rattle.rules.proofs.FieldLaws.{Sound, put_law, put-sound, holds_fits}
+use Rattle.rules.proofs.Proper.{Proper}
 use Rattle.rules.proofs.Typed.{Typed, sound, table-size}
 use Rattle.rules.proofs.Steps.{cutting}
 use Rattle.rules.proofs.Keeps.{AtEnd}
@@ -105,11 +106,7 @@ module _ {r : Rights} where
 
 -- ---- a device as the steps find it
 
--- a sound device with a table of 2048 bytes; every value of the declared type stands for one
-pub record Proper (d : Device) : Type 0 where
-  pub sound : Sound d
-  pub size : length d.table ≡ 2048
-
+-- `Proper` is of Rattle.rules.proofs.Proper: every value of the declared type stands for such a device
 pub typed_proper : (d : HeldDevice) → Typed d → Proper (view d)
 typed_proper d t = record { sound = sound d t; size = table-size d t }
 

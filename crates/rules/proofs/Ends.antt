@@ -21,7 +21,7 @@ use Rattle.rules.specs.declared.Heard.{Heard}
 use Rattle.rules.proofs.BoolLaws.{and_left, and_right}
 use Rattle.rules.proofs.FieldLaws.{holds_fits}
 use Rattle.rules.proofs.Steps.{and_then, go_bind, bind_ok, ask-does}
-use Rattle.rules.proofs.Each.{Proper}
+use Rattle.rules.proofs.Proper.{Proper}
 use Rattle.rules.proofs.Leads.{Leads, leads_map, leads_both, shrinks, proper_kept, same_bind, same_cond}
 use Rattle.rules.proofs.PassLaws.{pass_room, citer_at, count_at, count_below, Counted, fewer, ended, pass-counts, majors_kept}
 use Rattle.rules.proofs.BoolLaws.{neither}

@@ -21,7 +21,8 @@ use Rattle.rules.proofs.BoolLaws.{and_left, or_either, neither}
 use Rattle.rules.proofs.CallLaws.{passed}
 use Rattle.rules.proofs.FieldLaws.{holds_fits}
 use Rattle.rules.proofs.Steps.{cutting, in_table_lem, fetch-inside}
-use Rattle.rules.proofs.Each.{Rights, Each, at_done, at_endless, at_stage, at_fetch, at_store, at_ask, at_put, at_look, ◌>>=◌, ◌>>◌, each_fetch, each_ask, each_asked, each_put, each_change, each_look, each_when, each_cond, Proper, proper-store, proper-put, fetched_length}
+use Rattle.rules.proofs.Each.{Rights, Each, at_done, at_endless, at_stage, at_fetch, at_store, at_ask, at_put, at_look, ◌>>=◌, ◌>>◌, each_fetch, each_ask, each_asked, each_put, each_change, each_look, each_when, each_cond, proper-store, proper-put, fetched_length}
+use Rattle.rules.proofs.Proper.{Proper}
 use Rattle.rules.proofs.PassLaws.{descriptor_each, pass_each}
 use Rattle.rules.proofs.Arms.{write_each}
 use Rattle.rules.proofs.Pieces.{requesting_each, levelled_each, acknowledge_each, inputs_each}

@@ -10,7 +10,8 @@ use Rattle.rules.specs.Act.{Act, Done, Space, store, ◌>>=◌, ◌>>◌}
 use Rattle.rules.specs.Carry.{World, Out, ok, no, there, legal, recorded, go, Lent}
 use Rattle.rules.proofs.Steps.{and_then, go_bind}
 use Rattle.rules.proofs.Keeps.{AtEnd, go-keeps}
-use Rattle.rules.proofs.Each.{Proper, proper-store, proper-put}
+use Rattle.rules.proofs.Each.{proper-store, proper-put}
+use Rattle.rules.proofs.Proper.{Proper}
 
 -- Q of the answer and of what is there then, if an act's steps end with an answer
 abbrev pub IfAnswered : {A : Type 0} → (A → World → Type 0) → Out A → Type 0

@@ -17,6 +17,7 @@ pub mod ViewLaws
 -- an act's steps: one by one, what every act keeps, what each may do (and the pieces and register arms that calls share), where it leads
 pub mod Steps
 pub mod Keeps
+pub mod Proper
 pub mod Each
 pub mod Pieces
 pub mod Arms

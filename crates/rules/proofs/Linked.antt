@@ -17,7 +17,8 @@ use Rattle.rules.specs.Run.{paced, chip_turn}
 use Rattle.rules.specs.Words.{gain, lose, without, linked, link_of, count_of, recount}
 use Rattle.rules.specs.declared.Tcd.{Tcd}
 use Rattle.rules.proofs.BytesLaws.{part_lt}
-use Rattle.rules.proofs.Each.{Rights, Each, Proper, Properly, each_keeps, at_done, ◌>>=◌, ◌>>◌, each_ask, each_put, each_change, each_when}
+use Rattle.rules.proofs.Each.{Rights, Each, Properly, each_keeps, at_done, ◌>>=◌, ◌>>◌, each_ask, each_put, each_change, each_when}
+use Rattle.rules.proofs.Proper.{Proper}
 use Rattle.rules.proofs.FieldLaws.{put_law}
 use Rattle.rules.proofs.Leads.{Leads, leads_bind, leads_then, leads_both, leads_done, leads_cond, leads_end, proper_kept}
 use Rattle.rules.proofs.Masks.{gain_fits, lose_le, and_not}

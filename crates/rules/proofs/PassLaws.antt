@@ -25,7 +25,8 @@ use Rattle.rules.proofs.BoolLaws.{and_right}
 use Rattle.rules.proofs.BytesLaws.{length_bytes, part-splice-above, part-splice_below, part-splice-same, part-part, part_lt, value_fits}
 use Rattle.rules.proofs.FieldLaws.{sized, put_law}
 use Rattle.rules.proofs.Steps.{putting}
-use Rattle.rules.proofs.Each.{Rights, Each, Proper, Properly, proper-store, proper-put, each_keeps, at_done, ◌>>=◌, ◌>>◌, each_stage, each_fetch, each_store, each_ask, each_change, each_when, each_cond}
+use Rattle.rules.proofs.Each.{Rights, Each, Properly, proper-store, proper-put, each_keeps, at_done, ◌>>=◌, ◌>>◌, each_stage, each_fetch, each_store, each_ask, each_change, each_when, each_cond}
+use Rattle.rules.proofs.Proper.{Proper}
 use Rattle.rules.proofs.Leads.{IfAnswered, Leads, leads_bind, leads_then, leads_map, leads_both, leads_done, leads_cond, leads_end, leads_store, one_record, shrinks, proper_kept}
 
 -- ---- the transfer

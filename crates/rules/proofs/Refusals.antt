@@ -18,7 +18,8 @@ use Rattle.rules.specs.State.{Device}
 use Rattle.rules.specs.declared.Heard.{Heard}
 use Rattle.rules.proofs.Bench.{read_number}
 use Rattle.rules.proofs.CallLaws.{not_stopped, either_way}
-use Rattle.rules.proofs.Each.{Rights, Each, at_done, at_endless, at_stage, at_fetch, at_store, at_ask, at_put, at_look, each_change, Proper, proper-store, proper-put, fetched_length}
+use Rattle.rules.proofs.Each.{Rights, Each, at_done, at_endless, at_stage, at_fetch, at_store, at_ask, at_put, at_look, each_change, proper-store, proper-put, fetched_length}
+use Rattle.rules.proofs.Proper.{Proper}
 use Rattle.rules.proofs.FieldLaws.{holds_fits}
 use Rattle.rules.proofs.Guards.{go_bare, call_bare}
 use Rattle.rules.proofs.Lasts.{act_number, back_refused}

@@ -20,7 +20,8 @@ use Rattle.rules.specs.State.{Device}
 use Rattle.rules.specs.declared.Heard.{Heard}
 use Rattle.rules.proofs.BoolLaws.{and_left, and_right}
 use Rattle.rules.proofs.CallLaws.{either_way}
-use Rattle.rules.proofs.Each.{Proper, proper-table, proper_field}
+use Rattle.rules.proofs.Each.{proper-table, proper_field}
+use Rattle.rules.proofs.Proper.{Proper}
 use Rattle.rules.proofs.FieldLaws.{put_setting}
 use Rattle.rules.proofs.Keeps.{AtEnd, go-keeps}
 use Rattle.rules.proofs.Lasts.{Ending, BackEnds, none, damaged, taken, back_ends}

@@ -6,7 +6,7 @@ use lib.ListN.{length}
 use Rattle.rules.specs.Calls.{Asked, Told, stops, staging_after, world_of, told_after}
 use Rattle.rules.specs.Carry.{go, leave, perform, lending}
 use Rattle.rules.proofs.CallLaws.{not_stopped, act_goes}
-use Rattle.rules.proofs.Each.{Proper}
+use Rattle.rules.proofs.Proper.{Proper}
 use Rattle.rules.proofs.Ends.{Limits, Enough, act_or, call_ends}
 use Rattle.walls.specs.Wrong.{Given, acts}
 

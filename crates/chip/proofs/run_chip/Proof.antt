@@ -9,7 +9,7 @@ use Rattle.rules.specs.Carry.{go, lending}
 use Rattle.rules.specs.Run.{chip_turns, run_turns}
 use Rattle.rules.specs.State.{Device}
 use Rattle.rules.specs.View.{view_priorities}
-use Rattle.rules.proofs.Each.{Proper}
+use Rattle.rules.proofs.Proper.{Proper}
 use Rattle.turns.specs.Turns.{turning}
 use Rattle.chip.proofs.Turning.{Stands, chips_out, chips_stop, chips_refused, chips_again}
 use Rattle.chip.proofs.run_chip.Statement.{statement}

@@ -1,0 +1,6 @@
+-- `act::end_of` meets its contract. Assumes nothing.
+use borrow.Author.Rules.{rules}
+use Rattle.act.proofs.end_of.Goals as goal
+
+pub returns-in-Refused : goal.returns-in-Refused
+returns-in-Refused c = rw c.in-Refused.is

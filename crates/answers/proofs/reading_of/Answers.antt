@@ -1,0 +1,10 @@
+-- `answers::reading_of` meets its contract. Assumes nothing.
+use Rattle.answers.specs.Answers.{read_by}
+use borrow.Author.Rules.{rules}
+use Rattle.answers.proofs.reading_of.Goals as goal
+
+pub returns-in-Value : goal.returns-in-Value
+returns-in-Value c = (unfold read_by in rw c.in-Value.is c.packed.ensures)
+
+pub returns-in-Refused : goal.returns-in-Refused
+returns-in-Refused c = (unfold read_by in rw (c.in-Refused.is, ← c.refusal_number.ensures) c.packed-in-Refused.ensures)
