@@ -229,8 +229,8 @@ def turn(crate, folder, data, module):
             continue
         said = f.turn(body_text, i).rstrip()
         # the test of an `if !x` speaks of x itself today
-        said = re.sub(r"\(not-(?:true|false) _ (c\.if-not-[A-Za-z0-9_'.-]*)\)", r"\1", said)
-        said = re.sub(r"not-(?:true|false) _ (c\.if-not-[A-Za-z0-9_'.-]*)", r"\1", said)
+        said = re.sub(r"\(not-(?:true|false) (?:_|[\w.'-]+|\([^()]*\)) (c\.if-not-[A-Za-z0-9_'.-]*)\)", r"\1", said)
+        said = re.sub(r"not-(?:true|false) (?:_|[\w.'-]+|\([^()]*\)) (c\.if-not-[A-Za-z0-9_'.-]*)", r"\1", said)
         out.append(said)
         answers.append(out)
     invs = []

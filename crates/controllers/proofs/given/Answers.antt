@@ -1,0 +1,6 @@
+-- `controllers::given` meets its contract. What `owned_from` ensures. Assumes nothing.
+use Rattle.std.proofs.Common.{rules}
+use Rattle.controllers.proofs.given.Goals as goal
+
+pub returns : goal.returns
+returns c = rw c.owned_from.ensures

@@ -1,0 +1,38 @@
+-- `image::get_bytes` meets its contract. The loop's invariant: the numbers behind those that are left are there. Assumes nothing.
+use Rattle.image.proofs.Laws.{numbers_none, numbers_turn, numbers_all}
+use Rattle.image.specs.Image.{numbers_in}
+use Rattle.rules.specs.Bytes.{splice}
+use lib.ListN.{length, length-set}
+use Prim.Native.Nat.{◌+◌, ◌-◌, ◌≤◌}
+use mathlib.Core.Path.{◌≡◌, refl}
+use native.Mathlib.Omega.{arith}
+use Rattle.image.proofs.get_bytes.Goals as goal
+
+pub loop-left-init : goal.loop-left-init
+loop-left-init c = (omega arith, numbers_none 8 _ _ _, refl)
+
+pub overflow_sub-left : goal.overflow_sub-left
+overflow_sub-left c = omega arith
+
+pub overflow_add-from : goal.overflow_add-from
+overflow_add-from c = omega arith
+
+pub byte_at-requires : goal.byte_at-requires
+byte_at-requires c = omega arith
+
+pub bounds-into-left : goal.bounds-into-left
+bounds-into-left c = omega arith
+
+pub loop-left-smaller : goal.loop-left-smaller
+loop-left-smaller c = omega arith
+
+pub loop-left-preserved : goal.loop-left-preserved
+loop-left-preserved c =
+    let inv = c.loop-left.invariant in
+    (omega arith, numbers_turn 8 _ _ _ _ _ _ _ (omega arith) (omega arith) inv.1 c.byte_at.ensures, simp length-set (omega arith))
+
+pub shape_of-into : goal.shape_of-into
+shape_of-into c = omega arith
+
+pub returns : goal.returns
+returns c = numbers_all 8 _ _ _ _ _ (omega arith) c.loop-left.invariant.1

@@ -1,0 +1,9 @@
+-- `image::get_controller` meets its contract. Assumes nothing.
+use Rattle.image.specs.Image.{controller_in}
+use mathlib.Core.Path.{refl}
+use borrow.Author.Rules.{rules}
+use Rattle.image.proofs.get_controller.Goals as goal
+
+pub returns : goal.returns
+returns c =
+    rw (c.wide_at.ensures, c.wide_at-2.ensures, c.wide_at-3.ensures, c.get_bytes.ensures, c.half_at.ensures) (unfold controller_in in refl)

@@ -1,0 +1,15 @@
+-- `image::get_table` meets its contract. The loop's invariant: the bytes behind those that are left are there. Assumes nothing.
+use Rattle.image.proofs.Laws.{part_none, part-turn, part_all}
+use Rattle.rules.specs.Bytes.{part, splice}
+use lib.ListN.{length, length-set}
+use Prim.Native.Nat.{◌-◌, ◌≤◌}
+use mathlib.Core.Path.{◌≡◌, refl}
+use native.Mathlib.Omega.{arith}
+use Rattle.image.proofs.get_table.Given as goal
+
+abbrev pub invariant-loop-left : goal.invariant-loop-left
+invariant-loop-left l =
+    (l.left ≤ length l.initial.into) × (l.into ≡ splice l.initial.into l.left (part l.image l.left (length l.initial.into - l.left))) × (length l.into ≡ length l.initial.into)
+
+abbrev pub decreases-loop-left : goal.decreases-loop-left
+decreases-loop-left l = l.left

@@ -1,0 +1,7 @@
+-- `image::put_flags` meets its contract. Assumes nothing.
+use Rattle.image.proofs.Laws.{flags-put}
+use borrow.Author.Rules.{rules}
+use Rattle.image.proofs.put_flags.Goals as goal
+
+pub returns : goal.returns
+returns c = flags-put _ _ _ _ _ _ c.flags_of.ensures c.put8.ensures c.put8-2.ensures

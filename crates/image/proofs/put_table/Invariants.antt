@@ -1,0 +1,15 @@
+-- `image::put_table` meets its contract. The loop's invariant: the bytes behind those that are left are there. Assumes nothing.
+use Rattle.image.proofs.Laws.{over_none, over-turn, over_all}
+use Rattle.rules.specs.Bytes.{splice}
+use lib.ListN.{length, drop, length-set}
+use Prim.Native.Nat.{◌≤◌}
+use mathlib.Core.Path.{◌≡◌, refl}
+use native.Mathlib.Omega.{arith}
+use Rattle.image.proofs.put_table.Given as goal
+
+abbrev pub invariant-loop-left : goal.invariant-loop-left
+invariant-loop-left l =
+    (l.left ≤ length l.table) × (l.image ≡ splice l.initial.image l.left (drop l.left l.table)) × (length l.image ≡ length l.initial.image)
+
+abbrev pub decreases-loop-left : goal.decreases-loop-left
+decreases-loop-left l = l.left

@@ -1,0 +1,15 @@
+-- `image::put_taken` meets its contract. Assumes nothing.
+use Rattle.image.proofs.Rows.{taken-laid, taken-long}
+use Rattle.rules.specs.View.{view}
+use Rattle.rules.proofs.Typed.{sound}
+use native.Mathlib.Omega.{arith}
+use mathlib.Core.List.{[]}
+use borrow.Author.Rules.{rules}
+use Rattle.image.proofs.put_taken.Goals as goal
+
+pub put_wides-requires : goal.put_wides-requires
+put_wides-requires c = omega (arith, taken-long (view c.args.d) (sound c.args.d c.well_formed.1.0))
+
+pub returns : goal.returns
+returns c =
+    taken-laid (view c.args.d) (sound c.args.d c.well_formed.1.0) _ _ _ [] [] c.put_wides.ensures c.put_priorities.ensures

@@ -1,0 +1,9 @@
+-- `image::scalars_fit` meets its contract. Assumes nothing.
+use Rattle.image.proofs.FitLaws.{scalars_fit_lem}
+use borrow.Author.Rules.{rules}
+use Rattle.image.proofs.scalars_fit.Goals as goal
+
+pub returns : goal.returns
+returns c =
+    scalars_fit_lem _ (λ i. (c.type_inv.image i).fits) c.get_wides.ensures c.from_list-scalars.ensures
+    c.listed-listed.ensures c.begins_with.ensures c.fits.ensures

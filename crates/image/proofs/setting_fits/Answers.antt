@@ -1,0 +1,7 @@
+-- `image::setting_fits` meets its contract. Assumes nothing.
+use Rattle.image.proofs.FitLaws.{setting_fit}
+use borrow.Author.Rules.{rules}
+use Rattle.image.proofs.setting_fits.Goals as goal
+
+pub returns : goal.returns
+returns c = setting_fit _ (λ i. (c.type_inv.image i).fits) c.flags_of-flags.ensures c.get8.ensures c.get8-2.ensures

@@ -1,0 +1,18 @@
+-- `journal::undo_stores` meets its contract. The loop's invariant: what is left to undo from here gives what undoing all gives from the start. Assumes nothing.
+use Rattle.journal.specs.Undoing.{machine_of, undo_lines}
+use Rattle.journal.proofs.UndoLaws.{undo-turn, undo_none}
+use Rattle.rules.specs.State.{Device}
+use lib.ListN.{length, drop}
+use borrow.Author.Rules.{rules}
+use native.Mathlib.Omega.{arith}
+use native.Mathlib.Nat.{sub-zero}
+use Prim.Native.Nat.{◌-◌, ◌≤◌}
+use mathlib.Core.Path.{◌≡◌, refl, sym, ◌∙◌}
+use Rattle.journal.proofs.undo_stores.Given as goal
+
+abbrev pub invariant-loop-done : goal.invariant-loop-done
+invariant-loop-done l =
+    (l.done ≤ l.count) × ((d : Device) → undo_lines l.base (l.count - l.done) (drop l.from l.journal) (machine_of l.window l.table d) ≡ undo_lines l.base l.count (drop l.from l.journal) (machine_of l.initial.window l.initial.table d)) × (length l.window ≡ length l.initial.window)
+
+abbrev pub decreases-loop-done : goal.decreases-loop-done
+decreases-loop-done l = l.count - l.done
