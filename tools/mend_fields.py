@@ -52,8 +52,13 @@ def main():
                 if p == "0":
                     break
                 k += 1
-            if k < len(fields):
+            if len(fields) == 1:
+                new, end = fields[0], s.start() + len(tail)
+            elif k < len(fields):
                 new, end = fields[k], s.start() + used
+        elif re.fullmatch(r"t[1-9]", field) and int(field[1:]) <= len(fields):
+            # a parameter by its place
+            new = fields[int(field[1:]) - 1]
         elif field in ("type_size",):
             new = near or next((f for f in fields if f.startswith("size_of")), None)
         elif near and re.sub(r"\d+$", "", plain(field)) == re.sub(r"\d+$", "", plain(near)):
@@ -63,6 +68,43 @@ def main():
             continue
         t[row - 1] = line[: s.start()] + "." + new + line[end:]
         mended += 1
+    # what an `if !x` tells: `x` itself is false, where an older lemma asks that `not x` is true; or the other way about
+    shift = {}
+    for i, line in enumerate(lines):
+        m = re.match(r"^(\./\S+?):(\d+):(\d+): error: ", line)
+        if not m or "differ" not in line:
+            continue
+        said = " ".join([line] + [l for l in lines[i + 1 : i + 4] if l.startswith("  ")])
+        e = re.search(r"expected type `(.*?)`,? *but this has type `(.*?)`", said)
+        if not e:
+            continue
+        more = [len(re.findall(r"(?:Bool\.|\()not ", x)) for x in e.groups()]
+        path, row, col = m.group(1), int(m.group(2)), int(m.group(3))
+        if more[0] == more[1] or (path, row, col) in done:
+            continue
+        done.add((path, row, col))
+        t = texts.setdefault(path, open(path, encoding="utf-8").read().split("\n"))
+        k = col - 1 + shift.get((path, row), 0)
+        s = re.match(r"c\.[A-Za-z0-9_'.-]*|\(not-(?:true|false) (?:_|[\w.'-]+|\([^()]*\)) (c\.[A-Za-z0-9_'.-]*)\)", t[row - 1][k:])
+        if not s:
+            print("left: %s:%d:%d not" % (path, row, col))
+            continue
+        if more[0] > more[1]:
+            new = "(ap not %s)" % s.group(0)
+        elif s.group(1):
+            new = s.group(1)
+        else:
+            new = "(not-%s _ %s)" % (s.group(0).rsplit(".", 1)[1], s.group(0))
+        t[row - 1] = t[row - 1][:k] + new + t[row - 1][k + s.end() :]
+        shift[(path, row)] = shift.get((path, row), 0) + len(new) - s.end()
+        mended += 1
+        if "ap not" in new:
+            uses = "\n".join(l for l in t if l.startswith("use "))
+            lacks = [n for n in ("ap", "not") if not re.search(r"(?<![A-Za-z0-9_'-])%s(?![A-Za-z0-9_'-])" % n, uses)]
+            if lacks:
+                j = max(j for j, l in enumerate(t) if l.startswith("use "))
+                t[j:j] = ["use Rattle.std.proofs.Common.{%s}" % ", ".join(lacks)]
+                break
     for path, t in texts.items():
         open(path, "w", encoding="utf-8").write("\n".join(t))
     print("mended", mended)

@@ -1,0 +1,19 @@
+-- `equal_sizes::move_asking` meets its contract, by the size. Assumes nothing.
+use Rattle.std.proofs.Common.{rules}
+use Rattle.equal_sizes.proofs.Laws.{bursting}
+use Rattle.equal_sizes.proofs.move_asking.Goals as goal
+
+pub move_bursts-requires : goal.move_bursts-requires
+move_bursts-requires c =
+    let p = c.requires in
+    let others = c.in_default.in_default-own.rest in
+    (bursting _ p.0 others.0.0.1 others.0.1 others.1, p.0.most, p.1, p.2)
+
+pub returns-in-1 : goal.returns-in-1
+returns-in-1 c = rw c.in-1.is c.move_sizes1.ensures
+
+pub returns-in-2 : goal.returns-in-2
+returns-in-2 c = rw c.in-2.is c.move_sizes2.ensures
+
+pub returns-in-4 : goal.returns-in-4
+returns-in-4 c = rw c.in-4.is c.move_sizes4.ensures

@@ -1,0 +1,24 @@
+-- `equal_sizes::store` meets its contract, by where the unit falls and whether its record fits: the laws of a window store at every width. Assumes nothing.
+use Rattle.std.proofs.Common.{length, arith, rules}
+use Rattle.rules.specs.Carry.{legal}
+use Rattle.act.proofs.Laws.{window_outside, window_full}
+use Rattle.memory.proofs.Laws.{not_there, at_there}
+use Rattle.journal.proofs.Laws.{room, no_room}
+use Rattle.equal_sizes.proofs.KnownLaws.{at_within}
+use Rattle.std.proofs.Common.{ap, not}
+use Rattle.equal_sizes.proofs.store.Goals as goal
+
+pub returns-in_default : goal.returns-in_default
+returns-in_default c lent d = window_outside _ lent d _ _ _ _ _ _ (not_there _ _ _ _ c.where_is.ensures c.in_default.is d)
+
+pub returns-then-not-has_room : goal.returns-then-not-has_room
+unfolding legal
+returns-then-not-has_room c lent d =
+    window_full _ lent d _ _ _ _ _ _ (at_there _ _ _ _ c.where_is.ensures c.in-At.is d) c.requires.one_of (no_room _ _ c.has_room.ensures (ap not c.if-not-has_room.true))
+
+pub store_known-requires : goal.store_known-requires
+store_known-requires c =
+    (at_within _ _ _ _ c.where_is.ensures c.in-At.is, room _ _ c.has_room.ensures (ap not c.if-not-has_room.false), c.requires)
+
+pub overflow_add-result : goal.overflow_add-result
+overflow_add-result c = record { fits = omega (arith, room c.args.at (length c.args.journal.now) c.has_room.ensures (ap not c.if-not-has_room.false)) }

@@ -1,0 +1,14 @@
+-- `major_end::lower_erq` meets its contract: a refused step stays, and ERQ loses its bit where `on`. Assumes nothing.
+use Rattle.std.proofs.Common.{refl, rules}
+use Rattle.act.proofs.Laws.{stays, skips, taken, scalar_changed}
+use Rattle.major_end.proofs.lower_erq.Goals as goal
+
+pub returns-in_default : goal.returns-in_default
+returns-in_default c base lent d w j t m = stays base lent _ d w j t m c.in_default.is
+
+pub returns-then-on : goal.returns-then-on
+returns-then-on c base lent d w j t m =
+    taken base lent _ _ _ c.if-on.true (scalar_changed base lent d _ w j t m c.in-Going.is _ 1 _ refl c.lose_bit-mask.ensures (search rules))
+
+pub returns : goal.returns
+returns c base lent d w j t m = skips base lent d _ w j t m c.in-Going.is _ _ c.if-on.false
