@@ -80,7 +80,9 @@ def main():
             continue
         more = [len(re.findall(r"(?:Bool\.|\()not ", x)) for x in e.groups()]
         path, row, col = m.group(1), int(m.group(2)), int(m.group(3))
-        if more[0] == more[1] or (path, row, col) in done:
+        ends = [x.rsplit(" ", 1)[-1].rsplit(".", 1)[-1] for x in e.groups()]
+        field_test = more[0] == more[1] == 1 and {ends[0], ends[1]} == {"true", "false"}
+        if (more[0] == more[1] and not field_test) or (path, row, col) in done:
             continue
         done.add((path, row, col))
         t = texts.setdefault(path, open(path, encoding="utf-8").read().split("\n"))
@@ -89,7 +91,9 @@ def main():
         if not s:
             print("left: %s:%d:%d not" % (path, row, col))
             continue
-        if more[0] > more[1]:
+        if field_test:
+            new = "(not-%s _ %s)" % (ends[1], s.group(0))
+        elif more[0] > more[1]:
             new = "(ap not %s)" % s.group(0)
         elif s.group(1):
             new = s.group(1)

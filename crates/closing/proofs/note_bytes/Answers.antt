@@ -23,7 +23,7 @@ returns-in_default-note_byte_block c =
 
 pub loop-i-preserved : goal.loop-i-preserved
 loop-i-preserved c =
-    (omega arith, block _ _ _ _ _ _ (omega arith) (omega arith) (omega arith) c.note_byte_block.ensures c.in-At-note_byte_block.is ∙ c.loop-i.invariant.1, omega (arith, c.note_byte_block.auto.1.1.1.1.0))
+    (omega arith, block _ _ _ _ _ _ (omega arith) (omega arith) (omega arith) c.note_byte_block.ensures c.in-At-note_byte_block.is ∙ c.loop-i.invariant.1, omega (arith, c.note_byte_block.auto.journal))
 
 pub returns : goal.returns
 returns c = told_at _ _ _ c.in-At.is (to_end _ _ _ _ _ c.note_each_byte.ensures ∙ c.loop-i.invariant.1)

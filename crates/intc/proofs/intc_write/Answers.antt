@@ -7,4 +7,4 @@ use Rattle.intc.proofs.intc_write.Goals as goal
 
 pub returns : goal.returns
 returns c x p =
-    written_held (write_to c.args.off c.args.size c.args.v) c.args.c c.args.t1 x _ _ (omega (arith, p.sound.three)) c.controller_written-w.ensures
+    written_held (write_to c.args.off c.args.size c.args.v) c.args.c c.args.k x _ _ (omega (arith, p.sound.three)) c.controller_written-w.ensures

@@ -1,0 +1,23 @@
+-- `unequal_sizes::write_sizes2` meets its contract. The loop's invariant: what is left to write from here is the whole
+use mathlib.Core.Path.{◌≡◌, refl}
+use Prim.Native.Nat.{◌+◌, ◌*◌, ◌<◌, ◌^◌}
+use native.Mathlib.Omega.{arith}
+use lib.Dec.{lit<, lit≤}
+use lib.ListN.{length}
+use borrow.Author.Rules.{rules}
+use Rattle.rules.specs.Minor.{write_sizes}
+use Rattle.act.proofs.Loops.{Remains, turn_on, turn-off}
+use Rattle.unequal_sizes.proofs.Writing.{write_single_on, write_sizes_end}
+use Rattle.unequal_sizes.specs.Stages.{wrote}
+use Rattle.unequal_sizes.proofs.write_sizes2.Given as goal
+
+abbrev pub invariant-loop-left : goal.invariant-loop-left
+invariant-loop-left l =
+    (l.d < 2 ^ 32)
+    × (length l.window ≡ length l.initial.window)
+    × (length l.journal ≡ length l.initial.journal)
+    × (l.pos + l.left * 2 ≡ l.count * 2)
+    × Remains l.base (write_sizes l.left l.doff l.dmod 2 l.d l.staging l.pos) l.end l.window l.journal (write_sizes l.count l.doff l.dmod 2 l.to l.staging 0) l.at l.initial.window l.initial.journal
+
+abbrev pub decreases-loop-left : goal.decreases-loop-left
+decreases-loop-left l = l.left

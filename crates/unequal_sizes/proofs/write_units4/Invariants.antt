@@ -1,0 +1,22 @@
+-- `unequal_sizes::write_units4` meets its contract. The loop's invariant: the units that are left, from number k on, are
+use mathlib.Core.Path.{◌≡◌, refl}
+use Prim.Native.Nat.{◌-◌, ◌≤◌}
+use native.Mathlib.Nat.{sub-zero}
+use native.Mathlib.Omega.{arith}
+use lib.ListN.{length}
+use borrow.Author.Rules.{rules}
+use Rattle.rules.specs.Minor.{write_units}
+use Rattle.act.proofs.Loops.{Remains, turn_on, turn-off}
+use Rattle.act.specs.Worlds.{walked}
+use Rattle.unequal_sizes.proofs.Writing.{writes-on, writes_end}
+use Rattle.unequal_sizes.proofs.write_units4.Given as goal
+
+abbrev pub invariant-loop-k : goal.invariant-loop-k
+invariant-loop-k l =
+    (l.k ≤ l.count)
+    × (length l.window ≡ length l.initial.window)
+    × (length l.journal ≡ length l.initial.journal)
+    × Remains l.base (write_units (l.count - l.k) l.k 4 l.to l.staging l.pos) l.end l.window l.journal (write_units l.count 0 4 l.to l.staging l.pos) l.at l.initial.window l.initial.journal
+
+abbrev pub decreases-loop-k : goal.decreases-loop-k
+decreases-loop-k l = l.count - l.k
