@@ -66,7 +66,7 @@ class Function:
         """`c` with so many `.before`s, at the place, and then a path: today's path."""
         if not rest:
             return "c" if befores == 0 else None
-        word = re.sub(r"_lem$", "", rest[0]).replace("type-inv", "type_inv").replace("well-formed", "well_formed")
+        word = re.sub(r"_lem$", "", rest[0]).replace("type-inv", "type_inv").replace("well-formed", "well_formed").replace("type_size", "size_of")
         if word in FIXED:
             return ".".join(["c", word] + rest[1:])
         rest = [word] + rest[1:]
