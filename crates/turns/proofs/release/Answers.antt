@@ -1,0 +1,27 @@
+-- `turns::release` meets its contract. Assumes nothing.
+use Rattle.turns.proofs.Freeing.{release_again, release_end}
+use borrow.Author.Rules.{rules}
+use mathlib.Core.List.{List}
+use mathlib.Core.Path.{◌≡◌, refl}
+use Prim.Native.Nat.{ℕ, ◌-◌, ◌≤◌}
+use Rattle.rules.specs.Carry.{go, Lent}
+use Rattle.rules.specs.Run.{release}
+use Rattle.rules.specs.With.{with_busy}
+use Rattle.rules.specs.Fields.{holds}
+use Rattle.rules.specs.Scalars.{ERQ}
+use Rattle.rules.specs.State.{Device}
+use Rattle.act.specs.Does.{beside}
+use Rattle.turns.proofs.release.Goals as goal
+
+pub loop-ch-init : goal.loop-ch-init
+loop-ch-init c = (search rules, λ base lent mem used free d h. refl)
+
+pub loop-ch-preserved : goal.loop-ch-preserved
+loop-ch-preserved c =
+    let l = c.loop-ch in
+    (search rules, λ base lent mem used free d h. release_again base lent mem used free c.args.time c.args.erq d h _ _ l.ch l.m (l.invariant.1 base lent mem used free d h) c.loop-ch-test.true _ _ c.release_one-m.ensures.0 c.release_one-m.ensures.1)
+
+pub returns : goal.returns
+returns c base lent mem used free d h =
+    let l = c.loop-ch in
+    release_end base lent mem used free c.args.time c.args.erq d h _ _ l.ch l.m (l.invariant.1 base lent mem used free d h) (search rules)
