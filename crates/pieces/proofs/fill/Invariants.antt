@@ -1,0 +1,9 @@
+-- `pieces::fill` ends, and its count is within the buffer. The measure is the room that is left. Assumes nothing.
+use Rattle.std.proofs.Common.{length, ◌-◌, ◌≤◌}
+use Rattle.pieces.proofs.fill.Given as goal
+
+abbrev pub invariant-loop-have : goal.invariant-loop-have
+invariant-loop-have g l = l.have ≤ length l.buf
+
+abbrev pub decreases-loop-have : goal.decreases-loop-have
+decreases-loop-have g l = length l.initial.buf - l.have
