@@ -1,7 +1,8 @@
 // A file read a piece at a time: as much as is there, or until a read fails.
 #![tactic(auto)]
 
-ghost use Rattle.std.specs.Prelude.{◌+◌, ◌≤◌, length};
+ghost use Rattle.std.specs.Prelude.{◌≡◌, ◌+◌, ◌≤◌, ◌<◌, false, length, take, drop};
+ghost use Rattle.std.specs.Io.KnownBytes.{Consumes, IsAtEnd};
 
 use std::io::{ErrorKind, Read, Seek, SeekFrom, Write};
 use std::rt::Files;
@@ -41,7 +42,10 @@ fn read_more<F: Read, E: Write>(
     have: usize,
 ) -> Got
     requires { have ≤ length buf.old }
-    ensures { have + result.n ≤ length buf.old }
+    ensures within { have + result.n ≤ length buf.old }
+    ensures front { take have buf.new ≡ take have buf.old }
+    ensures bytes { Consumes (F.remaining file.old) (F.remaining file.new) (take result.n (drop have buf.new)) }
+    ensures end { result.failed ≡ false → result.n ≡ 0 → have < length buf.old → IsAtEnd (F.remaining file.new) }
 {
     match file.read(&mut buf[have..]) {
         Ok(n) => Got { n, failed: false },
@@ -52,9 +56,12 @@ fn read_more<F: Read, E: Write>(
     }
 }
 
-// Reads until the piece is full, the file ends or a read fails.
+// Reads until the piece is full, the file ends or a read fails. The bytes are the file's next ones, and all of them where there is room left and
+// no read failed.
 pub fn fill<F: Read, E: Write>(file: &mut F, notes: &mut E, path: &[u8], buf: &mut [u8]) -> Got
-    ensures { result.n ≤ length buf.old }
+    ensures within { result.n ≤ length buf.old }
+    ensures bytes { Consumes (F.remaining file.old) (F.remaining file.new) (take result.n buf.new) }
+    ensures end { result.failed ≡ false → result.n < length buf.old → IsAtEnd (F.remaining file.new) }
 {
     let mut have = 0;
     while have < buf.len() {
@@ -93,7 +100,8 @@ pub fn fill_from<F: Read + Seek, E: Write>(
     place: i64,
     buf: &mut [u8],
 ) -> Got
-    ensures { result.n ≤ length buf.old }
+    ensures within { result.n ≤ length buf.old }
+    ensures end { result.failed ≡ false → result.n < length buf.old → IsAtEnd (F.remaining file.new) }
 {
     if !seek_to(file, notes, path, place) {
         return Got { n: 0, failed: true };
