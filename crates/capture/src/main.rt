@@ -1,21 +1,48 @@
 // The judge of captures: takes a descriptor (64 hexadecimal digits), CR (up to 8) and the name of a file of records, and prints one line; docs/CAPTURE.md
 // has all of them. Why a file could not be opened or read goes to standard error.
 #![tactic(auto)]
-use libc::STDOUT_FILENO;
 
-fn main() {
-    if os::arg_count() != 4 {
-        io::write_all(
-            STDOUT_FILENO,
-            b"unusable: three arguments are needed: descriptor, CR, file\n",
-        );
+ghost use Rattle.std.specs.Prelude.{◌≤◌, length};
+
+use std::env::FillError;
+use std::rt::Env;
+
+fn is_given(rt: &HostRuntime, i: usize) -> bool {
+    let mut none = [0u8; 0];
+    match rt.arg(i, &mut none) {
+        Ok(_) => true,
+        Err(FillError::TooLong) => true,
+        Err(FillError::NotPresent) => false,
+    }
+}
+
+// An argument's bytes at the start of `text`, and how many there are: none of one that is too long.
+fn argument(rt: &HostRuntime, i: usize, text: &mut [u8]) -> usize
+    ensures { result ≤ length text.old }
+{
+    match rt.arg(i, text) {
+        Ok(n) => n,
+        Err(_) => 0,
+    }
+}
+
+fn main(rt: HostRuntime) {
+    if !is_given(&rt, 3) || is_given(&rt, 4) {
+        let _ = println!(rt; "unusable: three arguments are needed: descriptor, CR, file");
         return;
     }
-    let mut descriptor = io::buffer();
-    let mut cr = io::buffer();
-    let mut path = io::buffer();
-    let n = os::arg(1, &mut descriptor);
-    let m = os::arg(2, &mut cr);
-    let k = os::arg(3, &mut path);
-    capture_file::judge_capture(&descriptor[..n], &cr[..m], &path[..k], STDOUT_FILENO);
+    let mut descriptor = [0u8; 4096];
+    let mut cr = [0u8; 4096];
+    let mut path = [0u8; 4096];
+    let n = argument(&rt, 1, &mut descriptor);
+    let m = argument(&rt, 2, &mut cr);
+    let k = argument(&rt, 3, &mut path);
+    capture_file::judge_capture(
+        &rt,
+        &descriptor[..n],
+        &cr[..m],
+        &path[..k],
+        &mut rt.stdout(),
+        &mut rt.stderr(),
+    );
 }

@@ -5,6 +5,7 @@ ghost use Rattle.judge.specs.Walks.{Fitting, Safe};
 
 use captures::Captured;
 use judge::{Course, Plan};
+use std::io::{Read, Seek, Write};
 
 // No file has more bytes than 2^63, nor more records than this. It is what ends the loop for the proof: nothing says that a file ends.
 const RECORDS: u64 = 0x7FFFFFFFFFFFC00;
@@ -25,23 +26,37 @@ struct Piece {
 }
 
 // The records from number `origin` on, whose values the writes carry; where the sizes are equal, none do. Whether they could be read.
-fn fill_sources(fd: i32, path: &[u8], p: Plan, origin: u64, sources: &mut [u8]) -> bool
+fn fill_sources<F: Read + Seek, E: Write>(
+    file: &mut F,
+    notes: &mut E,
+    path: &[u8],
+    p: Plan,
+    origin: u64,
+    sources: &mut [u8],
+) -> bool
     requires { origin < 2 ^ 40 }
 {
     if p.source.size == p.dest.size {
         return true;
     }
-    let got = pieces::fill_from(fd, path, (origin * 16) as i64, sources);
+    let got = pieces::fill_from(file, notes, path, (origin * 16) as i64, sources);
     !got.failed
 }
 
 // The piece that begins at record `number`.
-fn judge_piece(fd: i32, path: &[u8], p: Plan, number: u64, c: Course) -> Piece
+fn judge_piece<F: Read + Seek, E: Write>(
+    file: &mut F,
+    notes: &mut E,
+    path: &[u8],
+    p: Plan,
+    number: u64,
+    c: Course,
+) -> Piece
     requires { Fitting p × Safe c × (number < 2 ^ 59) }
     ensures { Safe result.course × (result.bytes ≤ 16000) }
 {
     let mut records = [0u8; 16000];
-    let got = pieces::fill_from(fd, path, (number * 16) as i64, &mut records);
+    let got = pieces::fill_from(file, notes, path, (number * 16) as i64, &mut records);
     let bytes = got.n;
     if got.failed {
         return Piece {
@@ -52,7 +67,7 @@ fn judge_piece(fd: i32, path: &[u8], p: Plan, number: u64, c: Course) -> Piece
     }
     let mut sources = [0u8; 64016];
     let origin = judge::origin_of(p, c);
-    if !fill_sources(fd, path, p, origin, &mut sources) {
+    if !fill_sources(file, notes, path, p, origin, &mut sources) {
         return Piece {
             course: c,
             bytes,
@@ -68,12 +83,20 @@ fn judge_piece(fd: i32, path: &[u8], p: Plan, number: u64, c: Course) -> Piece
 }
 
 // After the last piece.
-fn conclude(fd: i32, path: &[u8], p: Plan, number: u64, is_cut: bool, c: Course) -> Outcome
+fn conclude<F: Read + Seek, E: Write>(
+    file: &mut F,
+    notes: &mut E,
+    path: &[u8],
+    p: Plan,
+    number: u64,
+    is_cut: bool,
+    c: Course,
+) -> Outcome
     requires { Fitting p × Safe c }
 {
     let mut sources = [0u8; 64016];
     let origin = judge::origin_of(p, c);
-    if !fill_sources(fd, path, p, origin, &mut sources) {
+    if !fill_sources(file, notes, path, p, origin, &mut sources) {
         return Outcome::Unread;
     }
     Outcome::Judged(
@@ -83,13 +106,19 @@ fn conclude(fd: i32, path: &[u8], p: Plan, number: u64, is_cut: bool, c: Course)
 }
 
 // The whole file, from a course that has begun.
-fn judge_pieces(fd: i32, path: &[u8], p: Plan, begun: Course) -> Outcome
+fn judge_pieces<F: Read + Seek, E: Write>(
+    file: &mut F,
+    notes: &mut E,
+    path: &[u8],
+    p: Plan,
+    begun: Course,
+) -> Outcome
     requires { Fitting p × Safe begun }
 {
     let mut c = begun;
     let mut number: u64 = 0;
     while number < RECORDS {
-        let piece = judge_piece(fd, path, p, number, c);
+        let piece = judge_piece(file, notes, path, p, number, c);
         if piece.failed {
             return Outcome::Unread;
         }
@@ -97,7 +126,8 @@ fn judge_pieces(fd: i32, path: &[u8], p: Plan, begun: Course) -> Outcome
         let bytes = piece.bytes;
         if bytes < 16000 {
             return conclude(
-                fd,
+                file,
+                notes,
                 path,
                 p,
                 number + (bytes / 16) as u64,
@@ -110,8 +140,14 @@ fn judge_pieces(fd: i32, path: &[u8], p: Plan, begun: Course) -> Outcome
     Outcome::Unread
 }
 
-pub fn judge_file(fd: i32, path: &[u8], descriptor: &[u8; 32], cr: u32) -> Outcome {
+pub fn judge_file<F: Read + Seek, E: Write>(
+    file: &mut F,
+    notes: &mut E,
+    path: &[u8],
+    descriptor: &[u8; 32],
+    cr: u32,
+) -> Outcome {
     let t = sums::tcd_at(descriptor, 0);
     let p = judge::plan_of(cr, t);
-    judge_pieces(fd, path, p, Course::Going(judge::start(p, cr, t)))
+    judge_pieces(file, notes, path, p, Course::Going(judge::start(p, cr, t)))
 }

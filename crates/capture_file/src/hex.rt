@@ -1,10 +1,9 @@
 // Hexadecimal digits, in either case.
-ghost use Rattle.std.specs.Prelude.{◌&&◌, ◌≡◌, leb, length, get_or};
-ghost use Prim.Native.Nat.{◌≤◌, ◌<◌};
+ghost use Rattle.std.specs.Prelude.{◌&&◌, ◌≡◌, ◌≤◌, ◌<◌, ℕ, nat_le, length, slice_index};
 ghost use Rattle.capture_file.specs.Hex.{nibble_of, digits_from, spelled_from, byte_of};
 
 fn within(b: u8, low: u8, high: u8) -> bool
-    ensures { result ≡ leb low b && leb b high }
+    ensures { result ≡ nat_le low b && nat_le b high }
 {
     if b < low {
         return false;
@@ -65,7 +64,7 @@ fn byte(text: &[u8], k: usize) -> u8
 
 pub fn descriptor(text: &[u8], out: &mut [u8])
     requires { (length text.now ≡ 64) × (length out.old ≡ 32) }
-    ensures { (k : Prim.Native.Nat.ℕ) → k < 32 → get_or out.new k 0 ≡ byte_of text.now k }
+    ensures { (k : ℕ) → k < 32 → slice_index out.new k ≡ byte_of text.now k }
 {
     let mut k = 0;
     while k < 32 {

@@ -1,5 +1,5 @@
 -- The laws that the proofs of this crate cite, over plain variables: digits, marks, lines in turn. Assumes nothing.
-use mathlib.Core.Bool.{Bool, true, false, cond, not}
+use mathlib.Core.Bool.{Bool, true, false, cond}
 use mathlib.Core.List.{List, [], ◌∷◌, ◌++◌, append_assoc, append-nil}
 use mathlib.Core.Path.{◌≡◌, refl, sym, ap, ◌∙◌}
 use Prim.Native.Nat.{ℕ, zero, suc, ◌+◌, ◌-◌, ◌*◌, ◌/◌, ◌%◌, ◌≤◌, ◌<◌}
@@ -9,7 +9,7 @@ use native.Mathlib.Omega.{arith}
 use lib.Dec.{eqb}
 use lib.ListN.{length, get_or, set, take, drop, length-append, length-drop}
 use lib.Seq.{drop-drop, length-take-le}
-use borrow.Author.Tests.{lt-ltb, le-ltb, eq-eqb, ne_eqb, not-true, not-false}
+use borrow.Author.Tests.{lt-ltb, le-ltb, eq-eqb, ne_eqb}
 use Rattle.rules.specs.Bytes.{part, splice}
 use Rattle.rules.specs.TakeBack.{marked}
 use Rattle.rules.proofs.BytesLaws.{get_d_part, length_part, splice_append, splice_comm}
@@ -142,8 +142,8 @@ module _ (l : List ℕ) (n r m : ℕ) (so_far : r + marked_first (n - r) (drop (
         let further : (r + 1) * 16 ≡ r * 16 + 16 = omega arith in
         rw (further, ← drop-drop 16 (r * 16) l, asked, here l r (omega arith)) (rw k at so_far)
 
-    pub marks_turn : not b ≡ false → r + 1 + marked_first (n - (r + 1)) (drop ((r + 1) * 16) l) ≡ m
-    marks_turn e = omega (arith, rw (not-false b e) at next)
+    pub marks_turn : b ≡ true → r + 1 + marked_first (n - (r + 1)) (drop ((r + 1) * 16) l) ≡ m
+    marks_turn e = omega (arith, rw e at next)
 
-    pub marks_stop : not b ≡ true → r ≡ m
-    marks_stop e = omega (arith, rw (not-true b e) at next)
+    pub marks_stop : b ≡ false → r ≡ m
+    marks_stop e = omega (arith, rw e at next)

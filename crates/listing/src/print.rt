@@ -2,75 +2,96 @@
 ghost use Rattle.std.specs.Prelude.{◌<◌, ◌^◌};
 
 use crate::list;
+use std::io;
+use std::io::{Read, Write};
+use std::rt::Files;
 
 // No file has more bytes than 2^63, nor more records than this. It is what ends the loop for the proof: nothing says that a file ends.
 const RECORDS: u64 = 0x800000000000000;
 
-// A line that says at which record, counted from 0, and at which byte of the file the printing stopped, and why.
-fn report(errors: i32, path: &[u8], at: u64, why: &[u8])
+fn write_report<E: Write>(errors: &mut E, path: &[u8], at: u64, why: &str) -> io::Result<()>
     requires { at < 2 ^ 60 }
 {
-    io::write_all(errors, path);
-    io::write_all(errors, b": record ");
-    io::print_decimal(errors, at);
-    io::write_all(errors, b", byte ");
-    io::print_decimal(errors, at * 16);
-    io::write_all(errors, b": ");
-    io::write_all(errors, why);
-    io::write_all(errors, b"\n");
+    errors.write_all(path)?;
+    writeln!(errors, ": record {at}, byte {}: {why}", at * 16)
+}
+
+// A line that says at which record, counted from 0, and at which byte of the file the printing stopped, and why. Nothing is left to say it where
+// that cannot be written.
+fn report<E: Write>(errors: &mut E, path: &[u8], at: u64, why: &str)
+    requires { at < 2 ^ 60 }
+{
+    let _ = write_report(errors, path, at, why);
 }
 
 // Prints the next piece, which begins at record `first`; whether the file may go on after it.
-fn print_piece(fd: i32, path: &[u8], first: u64, out: i32, errors: i32) -> bool
+fn print_piece<F: Read, O: Write, E: Write, N: Write>(
+    file: &mut F,
+    path: &[u8],
+    first: u64,
+    out: &mut O,
+    errors: &mut E,
+    notes: &mut N,
+) -> bool
     requires { first < 2 ^ 59 }
 {
     let mut piece = [0u8; 1024];
-    let got = pieces::fill(fd, path, &mut piece);
+    let got = pieces::fill(file, notes, path, &mut piece);
     let n = got.n;
     let whole = n / 16;
     let mut text = [0u8; 2112];
     let lines = list(&piece, whole, &mut text);
     let end = lines * 33;
-    if !io::write_all(out, &text[..end]) {
-        os::fail(b"write");
-        return false;
+    match out.write_all(&text[..end]) {
+        Ok(()) => {}
+        Err(why) => {
+            pieces::fail(notes, b"write", why);
+            return false;
+        }
     }
     let next = first + lines as u64;
     if lines < whole {
-        report(
-            errors,
-            path,
-            next,
-            b"wrong mark, a record begins with 4a 52",
-        );
+        report(errors, path, next, "wrong mark, a record begins with 4a 52");
         return false;
     }
     if got.failed {
-        report(errors, path, next, b"cannot be read");
+        report(errors, path, next, "cannot be read");
         return false;
     }
     if n % 16 != 0 {
-        report(errors, path, next, b"cut short, a record has 16 bytes");
+        report(errors, path, next, "cut short, a record has 16 bytes");
         return false;
     }
     n == 1024
 }
 
-fn print_pieces(fd: i32, path: &[u8], out: i32, errors: i32) {
+fn print_pieces<F: Read, O: Write, E: Write, N: Write>(
+    file: &mut F,
+    path: &[u8],
+    out: &mut O,
+    errors: &mut E,
+    notes: &mut N,
+) {
     let mut first: u64 = 0;
-    while first < RECORDS && print_piece(fd, path, first, out, errors) {
+    while first < RECORDS && print_piece(file, path, first, out, errors, notes) {
         first += 64;
     }
 }
 
-// Prints the journal file of this name on the descriptor `out`, and on `errors` where it stopped short of the file's end.
-pub fn print_journal(path: &[u8], out: i32, errors: i32) {
-    let fd = os::open_read(path);
-    if fd < 0 {
-        os::fail(path);
-        report(errors, path, 0, b"cannot be opened");
-        return;
+// Prints the journal file of this name on `out`, and on `errors` where it stopped short of the file's end. Why the system refused goes to `notes`,
+// which is standard error in a program.
+pub fn print_journal<R: Files, O: Write, E: Write, N: Write>(
+    files: &R,
+    path: &[u8],
+    out: &mut O,
+    errors: &mut E,
+    notes: &mut N,
+) {
+    match pieces::open(files, path) {
+        Ok(mut file) => print_pieces(&mut file, path, out, errors, notes),
+        Err(why) => {
+            pieces::fail(notes, path, why);
+            report(errors, path, 0, "cannot be opened");
+        }
     }
-    print_pieces(fd, path, out, errors);
-    libc::close(fd);
 }

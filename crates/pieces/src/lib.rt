@@ -1,8 +1,12 @@
 // A file read a piece at a time: as much as is there, or until a read fails.
 #![tactic(auto)]
-ghost use Rattle.std.specs.Prelude.{◌+◌, ◌≤◌, length};
 
-use libc::SEEK_SET;
+ghost use Rattle.std.specs.Prelude.{◌≡◌, ◌+◌, ◌≤◌, ◌<◌, false, length, take, drop};
+ghost use Rattle.std.specs.Io.KnownBytes.{Consumes, IsAtEnd};
+
+use std::io::{ErrorKind, Read, Seek, SeekFrom, Write};
+use std::rt::Files;
+use std::{fs, io};
 
 // What reading came to: how many bytes, and whether it failed after them.
 #[derive(Drop)]
@@ -11,27 +15,57 @@ pub struct Got {
     pub failed: bool,
 }
 
-// One read, behind the bytes that are there; why it failed goes to standard error.
-fn read_more(fd: i32, path: &[u8], buf: &mut [u8], have: usize) -> Got
-    requires { have ≤ length buf.old }
-    ensures { have + result.n ≤ length buf.old }
-{
-    let got = libc::read(fd, &mut buf[have..]);
-    if got < 0 {
-        os::fail(path);
-        return Got { n: 0, failed: true };
+// Opens the file of this name for reading. A name is bytes, and one that is no UTF-8 text names no file that can be opened.
+pub fn open<R: Files>(files: &R, path: &[u8]) -> io::Result<R::File> {
+    match str::from_utf8(path) {
+        Ok(name) => fs::open(files, name),
+        Err(_) => Err(io::Error::new(ErrorKind::InvalidInput, "the name is not UTF-8")),
     }
-    let n = io::count(got, &buf[have..]);
-    Got { n, failed: false }
 }
 
-// Reads until the piece is full, the file ends or a read fails.
-pub fn fill(fd: i32, path: &[u8], buf: &mut [u8]) -> Got
-    ensures { result.n ≤ length buf.old }
+fn write_reason<E: Write>(notes: &mut E, what: &[u8], why: io::Error) -> io::Result<()> {
+    notes.write_all(what)?;
+    writeln!(notes, ": {why}")
+}
+
+// A line on `notes`: what failed, a colon and why. Nothing is left to say it where that cannot be written.
+pub fn fail<E: Write>(notes: &mut E, what: &[u8], why: io::Error) {
+    let _ = write_reason(notes, what, why);
+}
+
+// One read, behind the bytes that are there; why it failed goes to `notes`.
+fn read_more<F: Read, E: Write>(
+    file: &mut F,
+    notes: &mut E,
+    path: &[u8],
+    buf: &mut [u8],
+    have: usize,
+) -> Got
+    requires { have ≤ length buf.old }
+    ensures within { have + result.n ≤ length buf.old }
+    ensures front { take have buf.new ≡ take have buf.old }
+    ensures bytes { Consumes (F.remaining file.old) (F.remaining file.new) (take result.n (drop have buf.new)) }
+    ensures end { result.failed ≡ false → result.n ≡ 0 → have < length buf.old → IsAtEnd (F.remaining file.new) }
+{
+    match file.read(&mut buf[have..]) {
+        Ok(n) => Got { n, failed: false },
+        Err(why) => {
+            fail(notes, path, why);
+            Got { n: 0, failed: true }
+        }
+    }
+}
+
+// Reads until the piece is full, the file ends or a read fails. The bytes are the file's next ones, and all of them where there is room left and
+// no read failed.
+pub fn fill<F: Read, E: Write>(file: &mut F, notes: &mut E, path: &[u8], buf: &mut [u8]) -> Got
+    ensures within { result.n ≤ length buf.old }
+    ensures bytes { Consumes (F.remaining file.old) (F.remaining file.new) (take result.n buf.new) }
+    ensures end { result.failed ≡ false → result.n < length buf.old → IsAtEnd (F.remaining file.new) }
 {
     let mut have = 0;
     while have < buf.len() {
-        let more = read_more(fd, path, buf, have);
+        let more = read_more(file, notes, path, buf, have);
         let n = more.n;
         if n == 0 {
             return Got {
@@ -47,13 +81,30 @@ pub fn fill(fd: i32, path: &[u8], buf: &mut [u8]) -> Got
     }
 }
 
+// Whether the file now stands at this place; why it does not goes to `notes`.
+fn seek_to<F: Seek, E: Write>(file: &mut F, notes: &mut E, path: &[u8], place: i64) -> bool {
+    match file.seek(SeekFrom::Start(place.cast_unsigned())) {
+        Ok(at) => at == place.cast_unsigned(),
+        Err(why) => {
+            fail(notes, path, why);
+            false
+        }
+    }
+}
+
 // The same from a place in the file on, which is then where the file stands.
-pub fn fill_from(fd: i32, path: &[u8], place: i64, buf: &mut [u8]) -> Got
-    ensures { result.n ≤ length buf.old }
+pub fn fill_from<F: Read + Seek, E: Write>(
+    file: &mut F,
+    notes: &mut E,
+    path: &[u8],
+    place: i64,
+    buf: &mut [u8],
+) -> Got
+    ensures within { result.n ≤ length buf.old }
+    ensures end { result.failed ≡ false → result.n < length buf.old → IsAtEnd (F.remaining file.new) }
 {
-    if libc::lseek(fd, place, SEEK_SET) != place {
-        os::fail(path);
+    if !seek_to(file, notes, path, place) {
         return Got { n: 0, failed: true };
     }
-    fill(fd, path, buf)
+    fill(file, notes, path, buf)
 }

@@ -1,9 +1,10 @@
 // Document 01's 'Run only' example: one channel with START moves four bytes. The used part of the journal is written, one record a line.
 #![tactic(auto)]
+
 ghost use Rattle.std.specs.Prelude.{◌<◌};
 
-use libc::STDOUT_FILENO;
 use rules::Device;
+use std::io;
 
 // Channel 0's descriptor.
 fn describe(table: &mut [u8; 2048]) {
@@ -29,31 +30,24 @@ fn example() -> Device {
 }
 
 // The record at `16 * i`, as 32 digits.
-fn print_record(journal: &[u8; 256], i: usize)
+fn print_record(rt: &impl Print, journal: &[u8; 256], i: usize) -> io::Result<()>
     requires { i < 16 }
 {
     let at = 16 * i;
-    io::print_hex(STDOUT_FILENO, words::get8(journal, at), 16);
-    io::print_hex(STDOUT_FILENO, words::get8(journal, at + 8), 16);
-    io::write_all(STDOUT_FILENO, b"\n");
+    let first = words::get8(journal, at);
+    let second = words::get8(journal, at + 8);
+    println!(rt; "{first:016x}{second:016x}")
 }
 
-fn print_group(journal: &[u8; 256]) {
-    print_record(journal, 0);
-    print_record(journal, 1);
-    print_record(journal, 2);
-    print_record(journal, 3);
-    print_record(journal, 4);
-    print_record(journal, 5);
-    print_record(journal, 6);
-    print_record(journal, 7);
-    print_record(journal, 8);
-    print_record(journal, 9);
-    print_record(journal, 10);
-    print_record(journal, 11);
+// Eleven records and their end.
+fn print_group(rt: &impl Print, journal: &[u8; 256]) -> io::Result<()> {
+    for i in 0..12 {
+        print_record(rt, journal, i)?;
+    }
+    Ok(())
 }
 
-fn main() {
+fn main(rt: HostRuntime) -> io::Result<()> {
     let mut window = [0x11u8, 0x22, 0x33, 0x44, 0, 0, 0, 0];
     let mut staging = [0u8; 4];
     let mut journal = [0u8; 256];
@@ -67,8 +61,8 @@ fn main() {
         &mut journal,
         0,
     );
-    // Eleven records and their end.
     if r.used == 192 {
-        print_group(&journal);
+        print_group(&rt, &journal)?;
     }
+    Ok(())
 }
