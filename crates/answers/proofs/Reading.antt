@@ -12,23 +12,7 @@ use Rattle.rules.specs.declared.Heard.{Heard}
 use Rattle.rules.specs.declared.Heard.TheVariants as Heard
 use Rattle.rules.proofs.Bench.{read_number}
 use Rattle.rules.proofs.Hearing.{Audible}
-use Rattle.answers.specs.Answers.{packed, read_by}
-
-abbrev pub status_in : ℕ → ℕ
-status_in r = r / 2 ^ 56
-
-abbrev pub level_in : ℕ → ℕ
-level_in r = r / 2 ^ 40 % 2 ^ 8
-
-abbrev pub vector_in : ℕ → ℕ
-vector_in r = r / 2 ^ 32 % 2 ^ 8
-
-abbrev pub low_in : ℕ → ℕ
-low_in r = r % 2 ^ 32
-
--- level 0: nothing
-abbrev pub heard_in : ℕ → Heard
-heard_in r = cond (eqb (level_in r) 0) Heard.Nothing (Heard.Source (level_in r) (vector_in r))
+use Rattle.answers.specs.Answers.{packed, read_by, status_in, level_in, vector_in, low_in, heard_in}
 
 pub unpacked : (n l v low : ℕ) → l < 2 ^ 8 → v < 2 ^ 8 → let r = packed n l v low in (status_in r ≡ n) × (level_in r ≡ l) × (vector_in r ≡ v) × (low_in r ≡ low % 2 ^ 32)
 unfolding packed

@@ -23,7 +23,8 @@ use Rattle.rules.proofs.History.{Entry, Walk, walk, Alone}
 use Rattle.rules.proofs.Lasts.{Ending}
 use Rattle.rules.proofs.Through.{carried, carried_walk, walk_keeps, alone_through, walk_through}
 use Rattle.answers.specs.Answers.{Left, left, left_by}
-use Rattle.answers.proofs.Reading.{status_in, low_in, heard_in, status_is, low_is, heard_is}
+use Rattle.answers.proofs.Reading.{status_is, low_is, heard_is}
+use Rattle.answers.specs.Answers.{status_in, low_in, heard_in}
 
 -- ---- what a caller owns between entries, and how an entry ends for it
 

@@ -1,5 +1,7 @@
 -- The answer of an entry in one number (docs/ABI.md), and all that is there after an entry, however it holds a device. Assumes nothing.
-use Rattle.std.specs.Prelude.{List, ℕ, ◌+◌, ◌*◌, ◌%◌, ◌^◌}
+use Rattle.std.specs.Prelude.{cond, List, ℕ, ◌+◌, ◌*◌, ◌/◌, ◌%◌, ◌^◌, eqb}
+use Rattle.rules.specs.declared.Heard.{Heard}
+use Rattle.rules.specs.declared.Heard.TheVariants as Heard
 use Rattle.rules.specs.Calls.{heard_level, heard_vector, Told, told, ToldRead, told_read}
 use Rattle.rules.specs.State.{Device}
 use Rattle.captures.specs.declared.Judged.{Judged}
@@ -10,6 +12,23 @@ use Rattle.captures.specs.declared.Captured.TheVariants as Captured
 -- bits 63..56 status, 47..40 level, 39..32 vector, 31..0 the low bits of a number
 unfoldable pub packed : ℕ → ℕ → ℕ → ℕ → ℕ
 packed status level vector low = status * 2 ^ 56 + level * 2 ^ 40 + vector * 2 ^ 32 + low % 2 ^ 32
+
+-- what a caller reads off it
+abbrev pub status_in : ℕ → ℕ
+status_in r = r / 2 ^ 56
+
+abbrev pub level_in : ℕ → ℕ
+level_in r = r / 2 ^ 40 % 2 ^ 8
+
+abbrev pub vector_in : ℕ → ℕ
+vector_in r = r / 2 ^ 32 % 2 ^ 8
+
+abbrev pub low_in : ℕ → ℕ
+low_in r = r % 2 ^ 32
+
+-- level 0: nothing
+abbrev pub heard_in : ℕ → Heard
+heard_in r = cond (eqb (level_in r) 0) Heard.Nothing (Heard.Source (level_in r) (vector_in r))
 
 -- a register read: the value, 0 after a refusal
 unfoldable pub read_by : ToldRead → ℕ

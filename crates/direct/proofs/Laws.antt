@@ -25,7 +25,8 @@ use Rattle.act.specs.declared.Core.{Core}
 use Rattle.act.specs.declared.Done.{Done}
 use Rattle.direct.proofs.Hears.{ack-keeps}
 use Rattle.answers.specs.Answers.{packed, left, left_by}
-use Rattle.answers.proofs.Reading.{status_in, unpacked}
+use Rattle.answers.proofs.Reading.{unpacked}
+use Rattle.answers.specs.Answers.{status_in}
 use Rattle.direct.specs.declared.Fed.{Fed}
 use Rattle.direct.specs.declared.Short.{Short}
 use Rattle.direct.specs.Direct.{core_in, fed_core, left_of, SparedBy, fresh_by, saved, saved_by, loaded_by}

@@ -3,4 +3,3 @@ pub mod Laws
 pub mod Rows
 pub mod Unique
 pub mod Walls
-pub mod Apart

@@ -18,7 +18,8 @@ use Rattle.rules.proofs.Hearing.{Audible, act_hears, back_hears}
 use Rattle.rules.proofs.History.{Entry, Walk, walk, Alone}
 use Rattle.rules.proofs.Through.{carried}
 use Rattle.answers.specs.Answers.{read_by}
-use Rattle.answers.proofs.Reading.{status_in, read_status}
+use Rattle.answers.proofs.Reading.{read_status}
+use Rattle.answers.specs.Answers.{status_in}
 use Rattle.answers.proofs.Rows.{Shelf, compared_shelf, ended_entry, ended_aside, Opens, used_fits, shelf_of, entry_ended, aside_ended, rows_same_as_alone, rows_last_taken_back, rows_refused_12}
 use Rattle.direct.specs.Direct.{left_of}
 

@@ -15,7 +15,8 @@ use Rattle.rules.proofs.Hearing.{Audible, act_hears, back_hears}
 use Rattle.rules.proofs.Told.{prioritized, view_once}
 use Rattle.image.specs.Image.{device_in, is_image}
 use Rattle.answers.specs.Answers.{packed, Left, left, left_by}
-use Rattle.answers.proofs.Reading.{status_in, status_is}
+use Rattle.answers.proofs.Reading.{status_is}
+use Rattle.answers.specs.Answers.{status_in}
 use Rattle.direct.specs.Direct.{left_of, SparedBy, fresh_by, loaded_by}
 
 left_parts : {r r' : ℕ} {d d' : Device} {window window' staging staging' journal journal' : List ℕ} → left r d window staging journal ≡ left r' d' window' staging' journal'

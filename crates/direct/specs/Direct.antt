@@ -7,7 +7,7 @@ use Rattle.act.specs.Parts.{Arrays, ordered, working, whole}
 use Rattle.act.specs.declared.Core.{Core}
 use Rattle.image.specs.Image.{image_of, device_in, is_image}
 use Rattle.answers.specs.Answers.{packed, Left, left, left_by}
-use Rattle.answers.proofs.Reading.{status_in}
+use Rattle.answers.specs.Answers.{status_in}
 use Rattle.direct.specs.declared.Fed.{Fed}
 use Rattle.direct.specs.declared.Short.{Short}
 

@@ -6,6 +6,7 @@
 ghost use Rattle.std.specs.Prelude.{[], ◌≡◌, ◌%◌, ◌^◌};
 ghost use Rattle.rules.specs.Calls.{verdict_number, after, after_back, after_read, write, inputs, pending as pending_call, run, service, ack};
 ghost use Rattle.rules.specs.View.{view};
+ghost use Rattle.rules.proofs.Proper.{Proper};
 ghost use Rattle.act.specs.Lent.{◌⇒◌};
 ghost use Rattle.act.specs.Parts.{Arrays, ordered, tabled, counted, taking};
 ghost use Rattle.answers.specs.Answers.{packed, left, read_by};
@@ -48,6 +49,12 @@ fn core_in(k: Short) -> Core
         controllers,
         ignore_masks: k.ignore_masks,
     }
+}
+
+// That a device's numbers fit their types: nothing is done, and nothing is left of it in the compiled code.
+fn known(d: Device)
+    ensures { Proper (view d) }
+{
 }
 
 // ---- answers
@@ -325,6 +332,7 @@ pub extern "C" fn kp_device_write(
 ) -> u64
     ensures { (Aside (write address size value) (view d.old) (view d.new) journal.old journal.new used result) × SparedBy result d.old.priorities d.new.priorities }
 {
+    known(*d);
     let k = Short {
         scalars: d.scalars,
         controllers: d.controllers,
@@ -343,7 +351,8 @@ pub extern "C" fn kp_device_write(
         used,
     );
     d.scalars = e.scalars;
-    d.controllers = e.controllers;
+    let controllers = e.controllers;
+    d.controllers = controllers;
     e.answer
 }
 
@@ -359,6 +368,7 @@ pub extern "C" fn kp_device_inputs(
 ) -> u64
     ensures { (Aside (inputs standing lines0 lines1 lines2) (view d.old) (view d.new) journal.old journal.new used result) × SparedBy result d.old.priorities d.new.priorities }
 {
+    known(*d);
     let k = Short {
         scalars: d.scalars,
         controllers: d.controllers,
@@ -376,7 +386,8 @@ pub extern "C" fn kp_device_inputs(
         used,
     );
     d.scalars = e.scalars;
-    d.controllers = e.controllers;
+    let controllers = e.controllers;
+    d.controllers = controllers;
     e.answer
 }
 
@@ -390,6 +401,7 @@ pub extern "C" fn kp_device_pending(
 ) -> u64
     ensures { (Aside (pending_call channel count) (view d.old) (view d.new) journal.old journal.new used result) × SparedBy result d.old.priorities d.new.priorities }
 {
+    known(*d);
     let k = Short {
         scalars: d.scalars,
         controllers: d.controllers,
@@ -398,7 +410,8 @@ pub extern "C" fn kp_device_pending(
     };
     let e = pending_by(k, channel, count, &mut d.pending, journal, used);
     d.scalars = e.scalars;
-    d.controllers = e.controllers;
+    let controllers = e.controllers;
+    d.controllers = controllers;
     e.answer
 }
 
@@ -411,6 +424,7 @@ pub extern "C" fn kp_device_acknowledge(
 ) -> u64
     ensures { (Aside (ack (ipl % 2 ^ 8)) (view d.old) (view d.new) journal.old journal.new used result) × SparedBy result d.old.priorities d.new.priorities }
 {
+    known(*d);
     let k = Short {
         scalars: d.scalars,
         controllers: d.controllers,
@@ -433,6 +447,7 @@ pub extern "C" fn kp_device_run(
 ) -> u64
     ensures { (left result (view d.new) window.new staging.new journal.new ≡ left_of (after (run time pace) base (view d.old) window.old staging.old journal.old used)) × SparedBy result d.old.priorities d.new.priorities }
 {
+    known(*d);
     let k = Short {
         scalars: d.scalars,
         controllers: d.controllers,
@@ -455,7 +470,8 @@ pub extern "C" fn kp_device_run(
         used,
     );
     d.scalars = e.scalars;
-    d.controllers = e.controllers;
+    let controllers = e.controllers;
+    d.controllers = controllers;
     e.answer
 }
 
@@ -472,6 +488,7 @@ pub extern "C" fn kp_device_service(
 ) -> u64
     ensures { (left result (view d.new) window.new staging.new journal.new ≡ left_of (after (service time pace) base (view d.old) window.old staging.old journal.old used)) × SparedBy result d.old.priorities d.new.priorities }
 {
+    known(*d);
     let k = Short {
         scalars: d.scalars,
         controllers: d.controllers,
@@ -494,7 +511,8 @@ pub extern "C" fn kp_device_service(
         used,
     );
     d.scalars = e.scalars;
-    d.controllers = e.controllers;
+    let controllers = e.controllers;
+    d.controllers = controllers;
     e.answer
 }
 

@@ -28,7 +28,8 @@ use Rattle.image.specs.Image.{image_of, chip_in, device_in, is_image}
 use Rattle.image.proofs.Round.{proper_round, proper_in}
 use Rattle.image.proofs.Rows.{image_old}
 use Rattle.answers.specs.Answers.{Left, left, left_by}
-use Rattle.answers.proofs.Reading.{status_in, read_status}
+use Rattle.answers.proofs.Reading.{read_status}
+use Rattle.answers.specs.Answers.{status_in}
 use Rattle.answers.proofs.Rows.{Shelf, compared_shelf, ended_entry, ended_aside, Opens, used_told, used_fits, shelf_of, entry_ended, aside_ended, rows_same_as_alone, rows_last_taken_back, rows_refused_12}
 use Rattle.entries.specs.Entry.{image_after, entered, entered_read}
 use Rattle.entries.proofs.Lifts.{made_lifts, alone_lifts}

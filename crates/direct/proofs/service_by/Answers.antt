@@ -1,0 +1,13 @@
+-- `direct::service_by` meets its contract, from that of the call on a device in parts. Assumes nothing.
+use mathlib.Core.Path.{refl}
+use Rattle.direct.proofs.Laws.{proper_core, fed_left}
+use Rattle.rules.specs.Calls.{service}
+use Rattle.act.specs.Parts.{ordered, working}
+use borrow.Author.Rules.{rules}
+use Rattle.direct.proofs.service_by.Goals as goal
+
+pub returns : goal.returns
+returns c =
+    let a = c.args in
+    let core = c.core_in in
+    (λ x proper. fed_left (service a.time a.pace) a.k core.result core.ensures c.run_in.result c.handed_back.result (working (ordered x a.priorities.now a.k.chip) _ _ _ _) (working (ordered x a.priorities.now a.k.chip) _ _ _ _) a.base _ _ _ _ _ _ a.used (c.run_in.ensures x (proper_core a.k core.result (working (ordered x a.priorities.now a.k.chip) _ _ _ _) core.ensures proper)) c.handed_back.ensures, λ n is. refl)
