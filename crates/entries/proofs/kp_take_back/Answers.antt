@@ -1,0 +1,24 @@
+-- `entries::kp_take_back` meets its contract. Assumes nothing.
+use Rattle.entries.proofs.Laws.{no_entry, act_entry}
+use Rattle.rules.specs.Calls.{after_back}
+use Rattle.image.proofs.Rows.{image_long}
+use borrow.Author.Tests.{not-true, not-false}
+use mathlib.Core.List.{[]}
+use mathlib.Core.Path.{sym, ◌∙◌}
+use native.Mathlib.Omega.{arith}
+use borrow.Author.Rules.{rules}
+use Rattle.entries.proofs.kp_take_back.Goals as goal
+
+pub returns-then-not-is_image : goal.returns-then-not-is_image
+returns-then-not-is_image c = no_entry _ _ _ _ _ _ (sym c.is_image.ensures ∙ c.if-not-is_image.true) c.packed.ensures
+
+pub get_device-d-requires : goal.get_device-d-requires
+get_device-d-requires c = image_long _ (sym c.is_image.ensures ∙ c.if-not-is_image.false)
+
+pub put_back-requires : goal.put_back-requires
+put_back-requires c = omega (arith, image_long c.args.image.now (sym c.is_image.ensures ∙ c.if-not-is_image.false))
+
+pub returns : goal.returns
+returns c =
+    let a = c.args in
+    act_entry a.image.now a.window.now [] a.journal.now a.used (λ d. after_back a.base d a.window.now a.journal.now a.used) (sym c.is_image.ensures ∙ c.if-not-is_image.false) c.get_device-d.ensures c.take_back-r.result c.take_back-r.ensures.0 c.put_back.ensures
