@@ -15,7 +15,7 @@ fn link(name: &str, entries: &[&str]) {
     println!("cargo:rerun-if-changed={}", archive.display());
     let bytes = fs::read(&archive).unwrap_or_else(|why| {
         stop(&format!(
-            "{}: {why}; make it with `rt staticlib {name}`, or name its folder in \
+            "{}: {why}; make it with `./build {name}`, or name its folder in \
              KOUNPHERAY_ARCHIVES",
             archive.display()
         ))

@@ -18,6 +18,16 @@ CAMEL = re.compile(r"(?<=[a-z0-9])(?=[A-Z])")
 TOP = re.compile(r"^\s*(?:abbrev |unfoldable |pub |data |record |ruleset )*([A-Za-z_][A-Za-z0-9_'-]*) *:(?!=)", re.M)
 USE = re.compile(r"use (Rattle\.std|borrow|logic|denote|seplogic|Prim|mathlib|lib)[^\s{;]*(?:\.\{([^}]*)\})?")
 KEEP = {"ffffFFFF"}
+# names that the rule does not reach: `getD` is `get_or` today, and a record's field has no dash
+FORCED = {
+    "get_d_part": "get_or-part",
+    "get_d_past": "get_or_past",
+    "getD-splice-above": "get_or-splice_above",
+    "getD-splice-below": "get_or-splice_below",
+}
+FIELDS = """long-now levels-long cleared-staging told-made told-unmade size-most units-most device-sound table-bytes on-made on-no-back on-unmade
+sound-dev fetch-link on-window put-majors store-link"""
+FORCED.update({f: f.replace("-", "_") for f in FIELDS.split()})
 
 
 def snake(word):
@@ -64,6 +74,7 @@ def main():
                 made += ("-" if left else "_") + pieces[i]
             if made != w:
                 turned[w] = made
+    turned.update(FORCED)
     # where a lemma would have a definition's name, it gets `_lem`; a function may have a definition's name
     clash = collections.defaultdict(set)
     for w in tops | known:
@@ -77,7 +88,7 @@ def main():
             if len(ws & known) > 1 or len(ws) > 2:
                 print("LOOK: two definitions", s, sorted(ws))
     # a name without a dash or a capital may be a function's too: it is turned in lemmas alone, and not in a path
-    plain = {w for w in turned if "-" not in w and not CAMEL.search(w)}
+    plain = {w for w in turned if "-" not in w and not CAMEL.search(w) and w not in FORCED}
     loose = re.compile(r"(?<![A-Za-z0-9_'.-])[a-z][A-Za-z0-9_'-]*(?!\.)")
     shown = re.compile(r"`[^`\n]*`")
     chain = re.compile(r"(?<![A-Za-z0-9_'-])c\.[A-Za-z0-9_'.-]*")

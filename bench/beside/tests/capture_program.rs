@@ -36,7 +36,7 @@ fn programs() -> PathBuf {
 fn program() -> Command {
     let path = programs().join("capture");
     let bytes = fs::read(&path).unwrap_or_else(|why| {
-        panic!("{}: {why}; make it with `rt check capture`", path.display());
+        panic!("{}: {why}; make it with `./build capture`", path.display());
     });
     let for_x86_64 = bytes.get(18..20) == Some(&[0x3E, 0]);
     match runner().filter(|_| for_x86_64) {

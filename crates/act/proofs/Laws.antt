@@ -18,7 +18,6 @@ use Rattle.rules.specs.Fields.{bits_of}
 use Rattle.rules.specs.Minor.{descriptor, tcd_of}
 use Rattle.rules.specs.State.{Device}
 use Rattle.rules.specs.declared.Refusal.{Refusal}
-use Rattle.rules.specs.declared.Refusal.TheVariants as Refusal
 use Rattle.rules.specs.declared.Scalars.{Scalars}
 use Rattle.rules.specs.declared.Tcd.{Tcd}
 use Rattle.rules.proofs.BytesLaws.{length_bytes}

@@ -6,7 +6,6 @@ use Rattle.rules.specs.Calls.{Asked, told_acted, told_heard, after}
 use Rattle.rules.specs.View.{view}
 use Rattle.rules.specs.declared.Device.{Device as HeldDevice}
 use Rattle.rules.specs.declared.Heard.{Heard}
-use Rattle.rules.specs.declared.Heard.TheVariants as Heard
 use Rattle.act.specs.Parts.{Arrays, whole, held, core_of, arrays_of, told_done}
 use Rattle.act.specs.declared.Core.{Core}
 use Rattle.act.specs.declared.Done.{Done}

@@ -1,5 +1,6 @@
 // How far an act has come, as the engine's functions hand it on; and a device in parts.
 #![tactic(auto)]
+
 ghost use Rattle.std.specs.Prelude.{◌≡◌};
 ghost use Rattle.act.specs.Parts.{core_of, held};
 ghost use Rattle.act.specs.Worlds.{flow_of};

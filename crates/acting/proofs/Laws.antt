@@ -1,7 +1,7 @@
 -- How acts end, by cases. Assumes nothing.
 use mathlib.Core.List.{List, ◌++◌}
 use mathlib.Core.Path.{◌≡◌, refl, sym, ap, ◌∙◌, subst}
-use Prim.Native.Nat.{ℕ, ◌-◌, ◌≤◌, min}
+use Prim.Native.Nat.{ℕ, ◌≤◌, min}
 use native.Mathlib.Omega.{arith}
 use lib.ListN.{length, take, drop, length-drop, take-append-drop}
 use lib.Seq.{take-take, length-take-le}
@@ -12,10 +12,8 @@ use Rattle.rules.specs.Fields.{fields_of}
 use Rattle.rules.specs.Lines.{relevel}
 use Rattle.rules.specs.State.{Device}
 use Rattle.rules.specs.declared.Heard.{Heard}
-use Rattle.rules.specs.declared.Heard.TheVariants as Heard
 use Rattle.rules.specs.declared.Refusal.{Refusal}
 use Rattle.rules.specs.declared.Verdict.{Verdict}
-use Rattle.rules.specs.declared.Verdict.TheVariants as Verdict
 use Rattle.rules.proofs.Proper.{Proper}
 use Rattle.rules.proofs.Grown.{Longer, Grown, go_grows, journal_grows}
 use Rattle.rules.proofs.Keeps.{AtEnd}
@@ -183,11 +181,11 @@ module _ (k : Core) (x x' : Arrays) (h : Heard) (used : ℕ) (w j₀ w' j j₂ :
 
       -- the same of the answer, as code has it
       module _ (r : Done) (is : r ≡ done_by k s n used) where
-        pub told-made : (z : List ℕ) → r.verdict ≡ Verdict.Accepted → told_done h r x' w' z j₂ ≡ told_after z used (perform base lent m began)
-        told-made z v = rw is (done-made z (rw is at v))
+        pub told_made : (z : List ℕ) → r.verdict ≡ Verdict.Accepted → told_done h r x' w' z j₂ ≡ told_after z used (perform base lent m began)
+        told_made z v = rw is (done-made z (rw is at v))
 
-        pub told-unmade : {why : Refusal} → r.verdict ≡ Verdict.Refused why → perform base lent m began ≡ unmade (refusal_number why) (cleared began)
-        told-unmade v = (done-unmade (rw is at v)).0
+        pub told_unmade : {why : Refusal} → r.verdict ≡ Verdict.Refused why → perform base lent m began ≡ unmade (refusal_number why) (cleared began)
+        told_unmade v = (done-unmade (rw is at v)).0
 
         pub core_kept : {why : Refusal} → r.verdict ≡ Verdict.Refused why → r ≡ refused_by k (Verdict.Refused why) used
         core_kept v = is ∙ (done-unmade (rw is at v)).1
@@ -200,7 +198,7 @@ module _ (k : Core) (x x' : Arrays) (h : Heard) (used : ℕ) (w j₀ w' j j₂ :
             let t = since_then in
             ap (λ (q : Done). told_done Heard.Nothing q x w z j₃) (core_kept v)
             ∙ ap (λ (l : List ℕ). told (refusal_number why) Heard.Nothing d w z l used) (c ∙ rw (← t.front, ← t.long, ← length-drop used j₀) refl)
-            ∙ ap (told_after z used) (sym (told-unmade v))
+            ∙ ap (told_after z used) (sym (told_unmade v))
 
 -- ---- an act that changed the core alone, and perhaps the table
 

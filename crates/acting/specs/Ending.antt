@@ -5,10 +5,8 @@ use Rattle.rules.specs.Calls.{told_after, refusal_number, world_of, levelled}
 use Rattle.rules.specs.Carry.{Out, ok, no, go, leave, perform, Lent}
 use Rattle.rules.specs.State.{Device}
 use Rattle.rules.specs.declared.Heard.{Heard}
-use Rattle.rules.specs.declared.Heard.TheVariants as Heard
 use Rattle.rules.specs.declared.Refusal.TheVariants as Refusal
 use Rattle.rules.specs.declared.Verdict.{Verdict}
-use Rattle.rules.specs.declared.Verdict.TheVariants as Verdict
 use Rattle.rules.proofs.Proper.{Proper}
 use Rattle.act.specs.Parts.{Arrays, tabled, whole, SameLevels, told_done}
 use Rattle.act.specs.Worlds.{came_to, walk_of}

@@ -1,6 +1,7 @@
 // The end of a call that is an act, the same for every call: lines and level anew, the last records, and what the call answers. What an act
 // changed besides the core, its call notes between `settle` and `done`; and where the call is refused, its call undoes its stores.
 #![tactic(auto)]
+
 ghost use Rattle.std.specs.Prelude.{◌≡◌, ◌≤◌, length};
 ghost use Rattle.rules.specs.declared.Verdict.TheVariants as Verdict;
 ghost use Rattle.act.specs.Lent.{◌⇒◌};

@@ -1,15 +1,13 @@
 -- What a caller reads off an answer is what was put there. Assumes nothing.
-use mathlib.Core.Bool.{cond}
 use mathlib.Core.List.{◌∷◌, []}
 use mathlib.Core.Path.{◌≡◌, refl, ◌∙◌}
-use Prim.Native.Nat.{ℕ, ◌+◌, ◌*◌, ◌/◌, ◌%◌, ◌^◌, ◌<◌}
+use Prim.Native.Nat.{ℕ, ◌+◌, ◌*◌, ◌%◌, ◌^◌, ◌<◌}
 use native.Mathlib.Nat.{mod-lt, mod-eq_of_lt}
 use native.Mathlib.Omega.{arith}
 use borrow.Author.Tests.{ne_eqb}
-use lib.Dec.{eqb, lit<}
+use lib.Dec.{lit<}
 use Rattle.rules.specs.Calls.{heard_level, heard_vector, ToldRead, told_read}
 use Rattle.rules.specs.declared.Heard.{Heard}
-use Rattle.rules.specs.declared.Heard.TheVariants as Heard
 use Rattle.rules.proofs.Bench.{read_number}
 use Rattle.rules.proofs.Hearing.{Audible}
 use Rattle.answers.specs.Answers.{packed, read_by, status_in, level_in, vector_in, low_in, heard_in}

@@ -13,7 +13,6 @@ use Rattle.rules.specs.Calls.{bad_window, Told, told, heard_told}
 use Rattle.rules.specs.Carry.{After, made, unmade}
 use Rattle.rules.specs.State.{Device}
 use Rattle.rules.specs.declared.Heard.{Heard}
-use Rattle.rules.specs.declared.Heard.TheVariants as Heard
 use Rattle.rules.proofs.Along.{Along, make_along, back_along}
 use Rattle.rules.proofs.Bench.{Held, RowCall, ended, ended_amiss, make_held, back_held, walked}
 use Rattle.rules.proofs.Demand3.{Start, same_as_alone, last_taken_back, refused_12_iff_none, refused_only_12}
@@ -108,7 +107,7 @@ module _ {D : Type 0} (of : Device → D) where
         room = opens.room;
         window_passes = opens.window_passes;
         window_bytes = opens.window_bytes;
-        device-sound = proper.sound;
+        device_sound = proper.sound;
         table_fits = omega (arith, proper.size);
       }
 

@@ -1,13 +1,10 @@
 -- The answer of an entry in one number (docs/ABI.md), and all that is there after an entry, however it holds a device. Assumes nothing.
 use Rattle.std.specs.Prelude.{cond, List, ℕ, ◌+◌, ◌*◌, ◌/◌, ◌%◌, ◌^◌, eqb}
 use Rattle.rules.specs.declared.Heard.{Heard}
-use Rattle.rules.specs.declared.Heard.TheVariants as Heard
 use Rattle.rules.specs.Calls.{heard_level, heard_vector, Told, told, ToldRead, told_read}
 use Rattle.rules.specs.State.{Device}
 use Rattle.captures.specs.declared.Judged.{Judged}
-use Rattle.captures.specs.declared.Judged.TheVariants as Judged
 use Rattle.captures.specs.declared.Captured.{Captured}
-use Rattle.captures.specs.declared.Captured.TheVariants as Captured
 
 -- bits 63..56 status, 47..40 level, 39..32 vector, 31..0 the low bits of a number
 unfoldable pub packed : ℕ → ℕ → ℕ → ℕ → ℕ

@@ -1,5 +1,6 @@
 // Answers as numbers: document 01's number for each case of the answers' enums; and an entry's whole answer in one number (docs/ABI.md).
 #![tactic(auto)]
+
 ghost use Rattle.std.specs.Prelude.{◌≡◌};
 ghost use Rattle.rules.specs.Calls.{refusal_number, verdict_number, heard_level, heard_vector, told_reading};
 ghost use Rattle.answers.specs.Answers.{packed, read_by, judged_by, captured_by};

@@ -1,6 +1,7 @@
 // What a call tests before it does anything: refusals 1, 5, 6 and 7 of document 01 and 14 of document 02, quoted from them.
 // Each contract is an equation with a definition of crate `rules` (specs/Calls.antt).
 #![tactic(auto)]
+
 ghost use Rattle.std.specs.Prelude.{◌≡◌};
 ghost use Rattle.rules.specs.Calls.{bad_size, bad_window, bad_journal, bad_time, bad_sum};
 

@@ -16,7 +16,6 @@ use Rattle.rules.specs.View.{view}
 use Rattle.rules.specs.declared.Device.{Device as HeldDevice}
 use Rattle.rules.specs.declared.Heard.TheVariants as Heard
 use Rattle.rules.specs.declared.Refusal.{Refusal}
-use Rattle.rules.specs.declared.Refusal.TheVariants as Refusal
 use Rattle.rules.specs.declared.Verdict.TheVariants as Verdict
 use Rattle.rules.proofs.BoolLaws.{neither}
 use Rattle.rules.proofs.Back.{take_none}

@@ -11,7 +11,7 @@ use lib.Seq.{take_all}
 use Rattle.rules.specs.Bytes.{number, part}
 use Rattle.rules.specs.Carry.{Machine, made, unmade}
 use Rattle.rules.specs.TakeBack.{kind, width, place, value, marked, ends, all_sound, take_group, take_last, take_end, take_back}
-use Rattle.rules.proofs.BytesLaws.{get_d_part, part-part}
+use Rattle.rules.proofs.BytesLaws.{get_or-part, part-part}
 use Rattle.rules.proofs.Cut.{part_cut}
 use Rattle.scan.specs.Heads.{Scanned, scanning}
 use Rattle.scan.proofs.HeadLaws.{number_one}
@@ -25,8 +25,8 @@ pub end_is : (l : List ℕ) (at : ℕ)
     → ends (part l at 16) ≡ marked (part l at 16) && eqb (number (part l (at + 2) 1)) 3 && eqb (number (part l (at + 3) 1)) 0 && eqb (number (part l (at + 4) 4)) 0
 unfolding ends place
 end_is l at =
-    let K : kind (part l at 16) ≡ number (part l (at + 2) 1) = get_d_part l at 16 2 (omega arith) ∙ sym (number_one l (at + 2)) in
-    let W : width (part l at 16) ≡ number (part l (at + 3) 1) = get_d_part l at 16 3 (omega arith) ∙ sym (number_one l (at + 3)) in
+    let K : kind (part l at 16) ≡ number (part l (at + 2) 1) = get_or-part l at 16 2 (omega arith) ∙ sym (number_one l (at + 2)) in
+    let W : width (part l at 16) ≡ number (part l (at + 3) 1) = get_or-part l at 16 3 (omega arith) ∙ sym (number_one l (at + 3)) in
     rw (K, W, part-part l at 16 4 4 (omega arith))
 
 -- ---- the last group: its end says that it has n records before it

@@ -17,7 +17,7 @@ use Rattle.rules.specs.TakeBack.{kind, width, place, value, marked, sound_field,
 use Rattle.rules.specs.With.{with_table}
 use Rattle.rules.specs.State.{Device}
 use Rattle.rules.proofs.BoolLaws.{and_left, and_right}
-use Rattle.rules.proofs.BytesLaws.{get_d_part, part-part}
+use Rattle.rules.proofs.BytesLaws.{get_or-part, part-part}
 use Rattle.rules.proofs.Cut.{part_cut}
 use Rattle.rules.proofs.FieldLaws.{put_setting}
 use Rattle.scan.specs.Heads.{scanning}
@@ -54,7 +54,7 @@ module _ (chip : Bool) (base : ℕ) (l w t : List ℕ) (long : length t ≡ 2048
 
 module _ (j : List ℕ) (at : ℕ) where
   pub kind_at : {k : ℕ} → k ≡ number (part j (at + 2) 1) → ltb 1 k ≡ ltb 1 (kind (part j at 16))
-  kind_at e = ap (ltb 1) (e ∙ number_one j (at + 2) ∙ sym (get_d_part j at 16 2 (omega arith)))
+  kind_at e = ap (ltb 1) (e ∙ number_one j (at + 2) ∙ sym (get_or-part j at 16 2 (omega arith)))
 
   pub place_at_lem : {a : ℕ} → a ≡ number (part j (at + 4) 4) → a ≡ place (part j at 16)
   unfolding place

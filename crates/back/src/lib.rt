@@ -1,6 +1,7 @@
 // Take back: "undoes the last standing act". Document 01, "The calls" and "Journal records"; quoted words are its.
 // `stands` is the used part of the journal.
 #![tactic(auto)]
+
 ghost use Rattle.std.specs.Prelude.{◌≡◌, true, [], ◌+◌, ◌*◌, ◌≤◌, length, drop, ltb};
 ghost use Rattle.rules.specs.View.{view};
 ghost use Rattle.rules.specs.Bytes.{part};

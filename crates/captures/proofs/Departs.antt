@@ -18,9 +18,7 @@ use Rattle.rules.specs.Fields.{bits_in, holds, with_field, setting_of}
 use Rattle.rules.specs.With.{with_table}
 use Rattle.rules.proofs.BoolLaws.{and_left, and_right, and_both}
 use Rattle.captures.specs.declared.Due.{Due}
-use Rattle.captures.specs.declared.Due.TheVariants as Due
 use Rattle.captures.specs.declared.Judged.{Judged}
-use Rattle.captures.specs.declared.Judged.TheVariants as Judged
 use Rattle.captures.specs.Capture.{Access, reads, writes, first, rest, accesses, read_as, wrote_as, ended, judge}
 use Rattle.captures.proofs.Judges.{values, Fit, same, read_next, write_next}
 

@@ -10,12 +10,9 @@ use borrow.Author.Tests.{ltb-true}
 use lib.Dec.{eqb, ltb}
 use Rattle.rules.specs.Minor.{pass}
 use Rattle.captures.specs.declared.Flaw.{Flaw}
-use Rattle.captures.specs.declared.Flaw.TheVariants as Flaw
 use Rattle.captures.specs.declared.Due.{Due}
 use Rattle.captures.specs.declared.Judged.{Judged}
-use Rattle.captures.specs.declared.Judged.TheVariants as Judged
 use Rattle.captures.specs.declared.Captured.{Captured}
-use Rattle.captures.specs.declared.Captured.TheVariants as Captured
 use Rattle.captures.specs.Capture.{Access, reads, writes, accesses, judged, board, mark_of, kind_in, width_of, address_of, value_of, flaw_of, access_of, records, is_cut, record_at, accesses_of, unless_flawed, captured}
 use Rattle.captures.proofs.Judges.{values, Fit, complete, sound}
 use Rattle.captures.proofs.Departs.{Departing, departing}

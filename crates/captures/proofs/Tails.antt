@@ -22,9 +22,7 @@ use Rattle.rules.specs.Minor.{START, ACTIVE, DONE, ESG, MAJORELINK, tcd_of, tcd_
 use Rattle.rules.proofs.BytesLaws.{part-first, part-part, part-splice_below, part-splice-above, part-splice-same, length_bytes, length_splice, value_of_bytes}
 use Rattle.rules.proofs.Masks.{gain_other, lose_other}
 use Rattle.captures.specs.declared.Due.{Due}
-use Rattle.captures.specs.declared.Due.TheVariants as Due
 use Rattle.captures.specs.declared.Judged.{Judged}
-use Rattle.captures.specs.declared.Judged.TheVariants as Judged
 use Rattle.captures.specs.Capture.{Access, rest, read_as, ended, judge, board}
 
 -- ---- steps on table and fields alone

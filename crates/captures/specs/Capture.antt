@@ -11,13 +11,9 @@ use Rattle.rules.specs.Fields.{bits_in, holds, with_field, setting_of}
 use Rattle.rules.specs.Minor.{pass}
 use Rattle.rules.specs.With.{with_table}
 use Rattle.captures.specs.declared.Due.{Due}
-use Rattle.captures.specs.declared.Due.TheVariants as Due
 use Rattle.captures.specs.declared.Judged.{Judged}
-use Rattle.captures.specs.declared.Judged.TheVariants as Judged
 use Rattle.captures.specs.declared.Flaw.{Flaw}
-use Rattle.captures.specs.declared.Flaw.TheVariants as Flaw
 use Rattle.captures.specs.declared.Captured.{Captured}
-use Rattle.captures.specs.declared.Captured.TheVariants as Captured
 
 -- "read or write, address, width, value"
 pub data Access : Type 0 where

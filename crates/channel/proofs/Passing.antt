@@ -20,7 +20,6 @@ use Rattle.rules.specs.Words.{has}
 use Rattle.rules.specs.With.{with_pending}
 use Rattle.rules.specs.State.{Device}
 use Rattle.rules.specs.declared.Refusal.{Refusal}
-use Rattle.rules.specs.declared.Refusal.TheVariants as Refusal
 use Rattle.rules.proofs.Steps.{bind_ok, bind_no, putting}
 use Rattle.act.specs.Worlds.{world, came_to}
 use Rattle.act.specs.declared.Flow.{Flow}

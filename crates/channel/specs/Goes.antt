@@ -8,7 +8,6 @@ use Rattle.rules.specs.State.{Device}
 use Rattle.act.specs.Worlds.{world, came_to}
 use Rattle.act.specs.declared.Flow.{Flow}
 use Rattle.act.specs.declared.Step.{Step}
-use Rattle.act.specs.declared.Step.TheVariants as Step
 use Rattle.channel.specs.declared.Line.{Line}
 use Rattle.channel.specs.declared.Line.TheVariants.{Sum, Broken}
 

@@ -3,6 +3,7 @@
 // The numbers of passes are those of the trees. Those of START and of channel 35 never decide, by a theorem there (proofs/Ends); that of a channel that
 // requests, 1,048,577, is document 01's own and does.
 #![tactic(auto)]
+
 ghost use Rattle.std.specs.Prelude.{◌≡◌, ◌-◌, ◌*◌, ◌^◌, ◌<◌, length, get_or, set};
 ghost use Rattle.rules.specs.Bytes.{part};
 ghost use Rattle.rules.specs.Minor.{tcd_of};

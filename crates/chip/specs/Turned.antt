@@ -11,7 +11,6 @@ use Rattle.rules.proofs.Proper.{Proper}
 use Rattle.act.specs.Worlds.{world, came_to}
 use Rattle.act.specs.declared.Flow.{Flow}
 use Rattle.act.specs.declared.Step.{Step}
-use Rattle.act.specs.declared.Step.TheVariants as Step
 use Rattle.turns.specs.Turns.{around, turning}
 use Rattle.chip.specs.declared.Turned.{Turned}
 use Rattle.chip.specs.declared.Turned.TheVariants.{Yes, No, Off}

@@ -3,6 +3,7 @@
 // What a turn looks for is kept in masks. A turn changes them for the channel that it served, and START besides for the two that this one can link to
 // (crate `rules`, proofs/Linked.antt): so it looks at three channels and not at 64.
 #![tactic(auto)]
+
 ghost use Rattle.std.specs.Prelude.{true, cond, List, ◌≡◌, ℕ, ◌^◌, ◌≤◌, ◌<◌};
 ghost use Rattle.rules.specs.Minor.{pass};
 ghost use Rattle.rules.specs.Run.{chip_turn};

@@ -9,7 +9,7 @@ use Rattle.rules.specs.Fields.{joined, own_of, parts_of, fields_of, controller, 
 use Rattle.rules.specs.Scalars.{scalar_bits, view_scalars}
 use Rattle.rules.specs.State.{Controller}
 use Rattle.rules.proofs.Proper.{Proper}
-use Rattle.rules.proofs.FieldLaws.{sized, levels-long}
+use Rattle.rules.proofs.FieldLaws.{sized, levels_long}
 use Rattle.rules.proofs.ViewLaws.{controller_viewed}
 use Rattle.act.specs.Parts.{Arrays, whole, held_at, SameLevels}
 use Rattle.act.specs.declared.Core.{Core}
@@ -20,7 +20,7 @@ use Rattle.closing.proofs.Laws.{part-on, same-on, none_changed}
 -- a part, then the rest
 rest-on : (s : Noted) (j : List ℕ) (n k m : ℕ) (b a xs ys : List ℕ) {t : Noted} {i : List ℕ} {o : Noting} → n + m ≡ k → Part m n b a s t j i
     → o ≡ add_all (changed k xs ys) (noting t i) → o ≡ add_all (changed n (b ++ xs) (a ++ ys)) (noting s j)
-rest-on s j n k m b a xs ys e p f = part-on n k b a xs ys (noting s j) (p.long ∙ sym p.long-now) (ap (λ (l : ℕ). n + l) p.long ∙ e) p.noted f
+rest-on s j n k m b a xs ys e p f = part-on n k b a xs ys (noting s j) (p.long ∙ sym p.long_now) (ap (λ (l : ℕ). n + l) p.long ∙ e) p.noted f
 
 -- of a controller its masks, forced, lines and config, then the rest
 own_on : (s : Noted) (j : List ℕ) (n k : ℕ) (b a : Controller) (xs ys : List ℕ) {t : Noted} {i : List ℕ} {o : Noting} → n + 4 ≡ k → Notes n (masks_of b []) (masks_of a []) s t j i
@@ -50,7 +50,7 @@ module _ (s : Noted) (j : List ℕ) (b a : Core) {t₁ t₂ r : Noted} {j₁ j�
   unfolding levels_in
   levels-done e f g = record {
     long = long (held_at b 0).levels (held_at b 1).levels (held_at b 2).levels e.long f.long g.long;
-    long-now = long (held_at a 0).levels (held_at a 1).levels (held_at a 2).levels e.long-now f.long-now g.long-now;
+    long_now = long (held_at a 0).levels (held_at a 1).levels (held_at a 2).levels e.long_now f.long_now g.long_now;
     noted =
         rest-on s j 256 320 64 (held_at b 0).levels (held_at a 0).levels _ _ refl e
         (rest-on t₁ j₁ 320 384 64 (held_at b 1).levels (held_at a 1).levels _ _ refl f g.noted);
@@ -71,15 +71,15 @@ module _ (k l : Core) (x : Arrays) (p : Proper (whole k x)) where
   length_levels : length (levels_in k) ≡ 192
   unfolding levels_in
   length_levels =
-      let a = levels_are 0 (levels-long (whole k x) p.sound 0 (omega arith)) in
-      let b = levels_are 1 (levels-long (whole k x) p.sound 1 (omega arith)) in
-      let c = levels_are 2 (levels-long (whole k x) p.sound 2 (omega arith)) in
+      let a = levels_are 0 (levels_long (whole k x) p.sound 0 (omega arith)) in
+      let b = levels_are 1 (levels_long (whole k x) p.sound 1 (omega arith)) in
+      let c = levels_are 2 (levels_long (whole k x) p.sound 2 (omega arith)) in
       omega (arith, length-append (held_at k 0).levels ((held_at k 1).levels ++ (held_at k 2).levels), length-append (held_at k 1).levels (held_at k 2).levels)
 
   pub same-part : SameLevels k l → (s : Noted) (j : List ℕ) → Part 192 256 (levels_in k) (levels_in l) s s j j
   same-part e s j =
       let q : levels_in k ≡ levels_in l = (unfold levels_in in rw (e.first, e.second, e.third)) in
-      record { long = length_levels; long-now = ap length (sym q) ∙ length_levels; noted = none_changed 256 (levels_in k) (levels_in l) (noting s j) q }
+      record { long = length_levels; long_now = ap length (sym q) ∙ length_levels; noted = none_changed 256 (levels_in k) (levels_in l) (noting s j) q }
 
 -- ---- all fields
 
@@ -104,21 +104,21 @@ fields_in k x =
 module _ (k : Core) (x : Arrays) (p : Proper (whole k x)) (s : Noted) (j : List ℕ) where
   pub same-busy : Part 64 64 x.busy x.busy s s j j
   unfolding parts_of
-  same-busy = let z = sized (whole k x) p.sound in record { long = z.1.1.1.0; long-now = z.1.1.1.0; noted = same 64 x.busy s j }
+  same-busy = let z = sized (whole k x) p.sound in record { long = z.1.1.1.0; long_now = z.1.1.1.0; noted = same 64 x.busy s j }
 
   pub same-majors : Part 64 128 x.majors x.majors s s j j
   unfolding parts_of
-  same-majors = let z = sized (whole k x) p.sound in record { long = z.1.1.1.1.0; long-now = z.1.1.1.1.0; noted = same 128 x.majors s j }
+  same-majors = let z = sized (whole k x) p.sound in record { long = z.1.1.1.1.0; long_now = z.1.1.1.1.0; noted = same 128 x.majors s j }
 
   pub same-pending : Part 64 192 x.pending x.pending s s j j
   unfolding parts_of
-  same-pending = let z = sized (whole k x) p.sound in record { long = z.1.1.1.1.1.0; long-now = z.1.1.1.1.1.0; noted = same 192 x.pending s j }
+  same-pending = let z = sized (whole k x) p.sound in record { long = z.1.1.1.1.1.0; long_now = z.1.1.1.1.1.0; noted = same 192 x.pending s j }
 
   pub same_taken : Part 192 576 x.taken x.taken s s j j
   unfolding parts_of
   same_taken =
       let z = (sized (whole k x) p.sound).1.1.1.1.1.1.1.1.1.1 in
-      record { long = z.0; long-now = z.0; noted = same 576 x.taken s j }
+      record { long = z.0; long_now = z.0; noted = same 576 x.taken s j }
 
 module _ (k l : Core) (x y : Arrays) (s : Noted) (j : List ℕ) {t₁ t₂ t₃ t₄ t₅ t₆ r : Noted} {j₁ j₂ j₃ j₄ j₅ j₆ j' : List ℕ} where
   pub every_noted : Notes 0 (core_in k) (core_in l) s t₁ j j₁ → Part 64 64 x.busy y.busy t₁ t₂ j₁ j₂ → Part 64 128 x.majors y.majors t₂ t₃ j₂ j₃

@@ -41,7 +41,7 @@ Notes n b a s r j j' = noting r j' ≡ add_all (changed n b a) (noting s j)
 -- and there are m of them
 pub record Part (m n : ℕ) (b a : List ℕ) (s r : Noted) (j j' : List ℕ) : Type 0 where
   pub long : length b ≡ m
-  pub long-now : length a ≡ m
+  pub long_now : length a ≡ m
   pub noted : Notes n b a s r j j'
 
 -- of m fields from number n on, field i, b at the act's entry and a now, where no other was changed

@@ -3,6 +3,7 @@
 // branches, and a chain of calls is one list of records. Which parts a call looks at is its own business: those that it could not have changed
 // are the same. Only the end of the chain tells whether the act is made or refused.
 #![tactic(auto)]
+
 ghost use Rattle.std.specs.Prelude.{true, false, ◌∷◌, [], ◌≡◌, ◌<◌, length};
 ghost use Rattle.rules.specs.View.{view_controller};
 ghost use Rattle.rules.specs.Carry.{line};

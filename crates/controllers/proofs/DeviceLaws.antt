@@ -2,7 +2,6 @@
 use Rattle.std.proofs.Common.{◌≡◌, ℕ, zero, suc, ◌+◌, ◌%◌, ◌^◌, ◌<◌, max, Bool, List, [], ◌∷◌, map, length, get_or, set, sym, refl, ap, ◌∙◌, subst, mod-lt, arith, lit<, ext_get_or, pow_pos, eq-eqb, ne_eqb}
 use Rattle.rules.specs.State.{Controller, Device}
 use Rattle.rules.specs.declared.Heard.{Heard}
-use Rattle.rules.specs.declared.Heard.TheVariants as Heard
 use Rattle.rules.specs.Act.{acts, put, LINES, SOURCE, TAKEN}
 use Rattle.rules.specs.Scalars.{INT, LEVEL}
 use Rattle.rules.specs.Bytes.{part}
@@ -12,8 +11,8 @@ use Rattle.rules.specs.View.{view_controller}
 use Rattle.rules.specs.With.{with_controllers, with_lines}
 use Rattle.rules.specs.declared.Controller.{Controller as HeldController}
 use Rattle.rules.specs.Lines.{driven, sources, level_bytes, level_of, relevel, above, heard_from, hear, acknowledge, Found}
-use Rattle.rules.proofs.BytesLaws.{length_part, get_d_part}
-use Rattle.rules.proofs.FieldLaws.{in_three, Sound, levels-long, holds_fits}
+use Rattle.rules.proofs.BytesLaws.{length_part, get_or-part}
+use Rattle.rules.proofs.FieldLaws.{in_three, Sound, levels_long, holds_fits}
 use Rattle.rules.proofs.ViewLaws.{map_set, no_held, controller_viewed}
 use Rattle.act.specs.Does.{Answers, Does}
 use Rattle.act.specs.Parts.{Arrays, whole, held_at, SameLevels}
@@ -26,7 +25,7 @@ use Rattle.controllers.specs.Levels.{sources_of, level_in, driven_in, controller
 
 -- a part that is the whole list
 part-whole : (xs : List ℕ) (n : ℕ) → length xs ≡ n → part xs 0 n ≡ xs
-part-whole xs n e = ext_get_or 0 (part xs 0 n) xs (length_part xs 0 n ∙ sym e) (λ i h. get_d_part xs 0 n i (rw (length_part xs 0 n) at h) ∙ at i)
+part-whole xs n e = ext_get_or 0 (part xs 0 n) xs (length_part xs 0 n ∙ sym e) (λ i h. get_or-part xs 0 n i (rw (length_part xs 0 n) at h) ∙ at i)
   where
     at : (i : ℕ) → get_or xs (0 + i) 0 ≡ get_or xs i 0
     at i = ap (λ (k : ℕ). get_or xs k 0) (plain i)
@@ -98,9 +97,9 @@ module _ (d : Device) (a b c : Controller) (s : Sound (with3 d a b c)) where
       (answers_then _ _ (with3 d a b c) (with3 d x b c) r _ _ (does-change (with3 d a b c) (LINES 0) (driven 0 (holds INT d)) (lines_fit 0))
       (answers_then _ _ (with3 d x b c) (with3 d x y c) r _ _ (does-change (with3 d x b c) (LINES 1) (driven 1 (holds INT d)) (lines_fit 1))
       (answers_then _ _ (with3 d x y c) (with3 d x y z) r _ _ (does-change (with3 d x y c) (LINES 2) (driven 2 (holds INT d)) (lines_fit 2))
-      (answers_bind _ _ (with3 d x y z) (with3 d x y z) r _ _ (level_answers (with3 d x y z) 0 (levels-long (with3 d a b c) s 0 (omega arith)))
-      (answers_bind _ _ (with3 d x y z) (with3 d x y z) r _ _ (level_answers (with3 d x y z) 1 (levels-long (with3 d a b c) s 1 (omega arith)))
-      (answers_bind _ _ (with3 d x y z) (with3 d x y z) r _ _ (level_answers (with3 d x y z) 2 (levels-long (with3 d a b c) s 2 (omega arith)))
+      (answers_bind _ _ (with3 d x y z) (with3 d x y z) r _ _ (level_answers (with3 d x y z) 0 (levels_long (with3 d a b c) s 0 (omega arith)))
+      (answers_bind _ _ (with3 d x y z) (with3 d x y z) r _ _ (level_answers (with3 d x y z) 1 (levels_long (with3 d a b c) s 1 (omega arith)))
+      (answers_bind _ _ (with3 d x y z) (with3 d x y z) r _ _ (level_answers (with3 d x y z) 2 (levels_long (with3 d a b c) s 2 (omega arith)))
       (subst (λ (v : ℕ). Does (put LEVEL v) (with3 d x y z) r) e (does-put (with3 d x y z) LEVEL n h))))))))
 
 -- as code works them out: the lines of each, then the highest of their levels
@@ -179,9 +178,9 @@ pub acknowledge-answers : (d : Device) → Sound d → (ipl : ℕ) {h0 h1 h2 : F
     → (a : Heard) (r : Device) → Answers (hear h2) d a r → Answers (acknowledge ipl) d a r
 unfolding acknowledge
 acknowledge-answers d s ipl e0 e1 e2 a r h =
-    answers_bind _ _ d d r _ _ (heard_answers d 0 (levels-long d s 0 (omega arith)) ipl (0, 0))
-    (rw (← e0) (answers_bind _ _ d d r _ _ (heard_answers d 1 (levels-long d s 1 (omega arith)) ipl _)
-    (rw (← e1) (answers_bind _ _ d d r _ _ (heard_answers d 2 (levels-long d s 2 (omega arith)) ipl _)
+    answers_bind _ _ d d r _ _ (heard_answers d 0 (levels_long d s 0 (omega arith)) ipl (0, 0))
+    (rw (← e0) (answers_bind _ _ d d r _ _ (heard_answers d 1 (levels_long d s 1 (omega arith)) ipl _)
+    (rw (← e1) (answers_bind _ _ d d r _ _ (heard_answers d 2 (levels_long d s 2 (omega arith)) ipl _)
     (rw (← e2) h)))))
 
 -- the same of a device in parts

@@ -1,6 +1,7 @@
 // The interrupt controllers: lines, level, acknowledge; and the inputs of the device. A controller is searched and rebuilt by value, one at
 // a time; the functions on a device's core only put the three together. Quoted words are document 01's.
 #![tactic(auto)]
+
 ghost use Rattle.std.specs.Prelude.{◌≡◌, ◌<◌, max, map, length, if◌then◌else◌, nat_eq};
 ghost use Rattle.rules.specs.View.{view_controller};
 ghost use Rattle.rules.specs.Lines.{owned_from, driven, loudest, relevel, answers, loudest_above, above, hear, acknowledge};

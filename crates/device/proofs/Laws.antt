@@ -19,7 +19,7 @@ use Rattle.rules.specs.View.{view_priorities, view}
 use Rattle.rules.specs.With.{with_priorities}
 use Rattle.rules.specs.declared.Device.{Device as HeldDevice}
 use Rattle.rules.specs.declared.Scalars.{Scalars}
-use Rattle.rules.proofs.FieldLaws.{Sound, levels-long, holds_fits, spot, bits_most as bits-in-most}
+use Rattle.rules.proofs.FieldLaws.{Sound, levels_long, holds_fits, spot, bits_most as bits-in-most}
 use Rattle.rules.proofs.Numbers.{at_priority, field_named}
 use Rattle.rules.proofs.PartLaws.{any_default, Within, within_set}
 use Rattle.rules.proofs.ScalarLaws.{scalar_bits_lem}
@@ -38,7 +38,7 @@ controller_fits d s c h = record {
   forced = holds_fits (FORCED c) d s;
   lines = holds_fits (LINES c) d s;
   config = holds_fits (CONFIG c) d s;
-  levels-long = levels-long d s c h;
+  levels_long = levels_long d s c h;
   levels = λ i. holds_fits (SOURCE c i) d s;
 }
 

@@ -60,5 +60,5 @@ pub record Fits (k : Controller) : Type 0 where
   pub forced : k.forced < 2 ^ 64
   pub lines : k.lines < 2 ^ 64
   pub config : k.config < 2 ^ 16
-  pub levels-long : length k.levels ≡ 64
+  pub levels_long : length k.levels ≡ 64
   pub levels : Bytes k.levels

@@ -1,6 +1,7 @@
 // The device by value: a fresh one, its fields one by one, and its fields by document 01's numbers.
 // Each contract is an equation with a definition of crate `rules` (specs/Fields.antt, specs/Calls.antt).
 #![tactic(auto)]
+
 ghost use Rattle.std.specs.Prelude.{◌≡◌, true, cond, ◌<◌, ◌≤◌, ◌^◌, length, get_or, set, replicate};
 ghost use Rattle.rules.specs.Act.{MASKS, FORCED, LINES, CONFIG, BUSY, MAJORS, PENDING, SOURCE, TAKEN, PRIORITY};
 ghost use Rattle.rules.specs.Fields.{controller, with_field, with_number, bits_of, bits_in, of_controller, field_at, fits_some};

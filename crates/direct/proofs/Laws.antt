@@ -14,9 +14,7 @@ use Rattle.rules.specs.View.{view_priorities, view}
 use Rattle.rules.specs.declared.Acted.{Acted}
 use Rattle.rules.specs.declared.Device.{Device as HeldDevice}
 use Rattle.rules.specs.declared.Heard.{Heard}
-use Rattle.rules.specs.declared.Heard.TheVariants as Heard
 use Rattle.rules.specs.declared.Verdict.{Verdict}
-use Rattle.rules.specs.declared.Verdict.TheVariants as Verdict
 use Rattle.image.specs.Image.{image_of, device_in, is_image}
 use Rattle.act.specs.Parts.{Arrays, whole, told_done}
 use Rattle.rules.proofs.Proper.{Proper}

@@ -10,7 +10,6 @@ use Rattle.rules.specs.Calls.{after, after_back, after_read}
 use Rattle.rules.specs.Carry.{After, made, unmade}
 use Rattle.rules.specs.State.{Device}
 use Rattle.rules.specs.declared.Heard.{Heard}
-use Rattle.rules.specs.declared.Heard.TheVariants as Heard
 use Rattle.rules.proofs.Along.{Along, make_along, back_along}
 use Rattle.rules.proofs.Bench.{Held, RowCall, act, read, amiss, amiss_back, make_held, back_held}
 use Rattle.rules.proofs.Proper.{Proper}

@@ -3,6 +3,7 @@
 // numbers and controllers when it comes back; the others copy the device. The contract is that of the call. A function over a reference to a struct is
 // proved by a walk by hand: so each of these is one call, some stores and one number.
 #![tactic(auto)]
+
 ghost use Rattle.std.specs.Prelude.{[], ◌≡◌, ◌%◌, ◌^◌};
 ghost use Rattle.rules.specs.Calls.{verdict_number, after, after_back, after_read, write, inputs, pending as pending_call, run, service, ack};
 ghost use Rattle.rules.specs.View.{view};
@@ -54,8 +55,7 @@ fn core_in(k: Short) -> Core
 // That a device's numbers fit their types: nothing is done, and nothing is left of it in the compiled code.
 fn known(d: Device)
     ensures { Proper (view d) }
-{
-}
+{}
 
 // ---- answers
 

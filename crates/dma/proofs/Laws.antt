@@ -9,7 +9,7 @@ use lib.Bits.{bit_or}
 use lib.Dec.{ltb}
 use lib.ListN.{length}
 use Rattle.rules.specs.State.{Device}
-use Rattle.rules.specs.Act.{Act, Field, PRIORITY, table, fetch, store, put, change, when, ◌>>=◌, ◌>>◌}
+use Rattle.rules.specs.Act.{Act, Field, PRIORITY, table, fetch, store, put, change, when, ◌>>=◌}
 use Rattle.rules.specs.Scalars.{KICK}
 use Rattle.rules.specs.Bytes.{number}
 use Rattle.rules.specs.Calls.{is_none, bad_size}

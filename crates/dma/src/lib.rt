@@ -1,6 +1,7 @@
 // The DMA registers and the descriptor table, written. Priorities (document 02, [10]) are not written here: they are an array of their own, and
 // `registers` writes it.
 #![tactic(auto)]
+
 ghost use Rattle.std.specs.Prelude.{◌≡◌, false, not, List, ℕ, ◌+◌, ◌≤◌, ◌<◌, length, drop};
 ghost use Rattle.rules.specs.Calls.{bad_size, is_none, or_nothing};
 ghost use Rattle.rules.specs.Registers.{in_table, table_write, pick, dma_arms, dma_write};

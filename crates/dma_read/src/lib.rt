@@ -1,5 +1,6 @@
 // The DMA registers and the descriptor table, read.
 #![tactic(auto)]
+
 ghost use Rattle.std.specs.Prelude.{◌≡◌, false, ◌+◌, ◌%◌, ◌≤◌};
 ghost use Rattle.rules.specs.View.{view};
 ghost use Rattle.rules.specs.Bytes.{number, part};

@@ -10,9 +10,7 @@ use Rattle.rules.specs.Run.{run_all, service_all}
 use Rattle.rules.specs.State.{Device}
 use Rattle.rules.specs.declared.Heard.TheVariants as Heard
 use Rattle.rules.specs.declared.Refusal.{Refusal}
-use Rattle.rules.specs.declared.Refusal.TheVariants as Refusal
 use Rattle.rules.specs.declared.Verdict.{Verdict}
-use Rattle.rules.specs.declared.Verdict.TheVariants as Verdict
 use Rattle.rules.proofs.CallLaws.{wrong-alone, act_wrong, act_goes}
 use Rattle.rules.proofs.Told.{refusal_suc}
 use Rattle.engine.specs.Runs.{turns_of, call_of}

@@ -6,17 +6,15 @@ use Prim.Native.Nat.{ℕ, ◌+◌, ◌^◌, ◌≤◌}
 use native.Mathlib.Omega.{arith}
 use lib.ListN.{length, replicate, take, drop, length-append, take-append-drop}
 use lib.Seq.{length-take-le}
-use Rattle.rules.specs.Act.{Act, table}
+use Rattle.rules.specs.Act.{Act}
 use Rattle.rules.specs.Bytes.{Bytes}
 use Rattle.rules.specs.Calls.{told, refusal_number, levelled, world_of, told_after}
 use Rattle.rules.specs.Carry.{Machine, World, changed, go, unmade, cleared, perform, Lent, lending}
 use Rattle.rules.specs.Fields.{fields_of}
 use Rattle.rules.specs.State.{Device}
 use Rattle.rules.specs.declared.Heard.{Heard}
-use Rattle.rules.specs.declared.Heard.TheVariants as Heard
 use Rattle.rules.specs.declared.Refusal.{Refusal}
 use Rattle.rules.specs.declared.Verdict.{Verdict}
-use Rattle.rules.specs.declared.Verdict.TheVariants as Verdict
 use Rattle.rules.proofs.Proper.{Proper}
 use Rattle.rules.proofs.Keeps.{AtEnd, Good}
 use Rattle.rules.proofs.Took.{Underway, go_underway}
@@ -36,7 +34,7 @@ use Rattle.closing.specs.declared.Noted.{Noted}
 use Rattle.closing.proofs.Parts.{same-part, same_taken, all_noted}
 use Rattle.acting.specs.Ending.{Settled, Settles, begun_at, end_at, done_by, remaining, refused_by}
 use Rattle.acting.specs.declared.Reached.{Reached}
-use Rattle.acting.proofs.Laws.{since_then, front_then, told-made, told-unmade, core_kept, stands_new, stands_old}
+use Rattle.acting.proofs.Laws.{since_then, front_then, told_made, told_unmade, core_kept, stands_new, stands_old}
 use Rattle.engine.specs.Runs.{RunsAll, Begins, turns_of, Ended, EndsTurns}
 
 -- ---- the last records of an act of turns
@@ -66,8 +64,8 @@ module _ (k : Core) (s : Reached) (x : Arrays) (tb tb' b b' m m' p p' : List ℕ
 
     pub turns-ended : Ended k before after s₀ r base lent act w j₀ w' j j₅ used
     turns-ended = record {
-      told-made = λ z v. told-made k before after Heard.Nothing used w j₀ w' j j₅ fits went.since base lent (levelled act) s n went.later went.left noted r is z v;
-      told-unmade = λ why v. told-unmade k before after Heard.Nothing used w j₀ w' j j₅ fits went.since base lent (levelled act) s n went.later went.left noted r is v;
+      told_made = λ z v. told_made k before after Heard.Nothing used w j₀ w' j j₅ fits went.since base lent (levelled act) s n went.later went.left noted r is z v;
+      told_unmade = λ why v. told_unmade k before after Heard.Nothing used w j₀ w' j j₅ fits went.since base lent (levelled act) s n went.later went.left noted r is v;
       core_kept = λ why v. core_kept k before after Heard.Nothing used w j₀ w' j j₅ fits went.since base lent (levelled act) s n went.later went.left noted r is v;
       front = subst (λ (at : ℕ). take at j₅ ≡ take at j) (ends_where s₀ went.ends) (front_then k before after Heard.Nothing used w j₀ w' j j₅ fits went.since base lent (levelled act) s n went.later went.left noted);
       long = sym (since_then k before after Heard.Nothing used w j₀ w' j j₅ fits went.since base lent (levelled act) s n went.later went.left noted).long ∙ went.since.long;
@@ -91,7 +89,7 @@ module _ (base : ℕ) (lent : Lent) (act : Act (Unit {0})) (d : Device) (w j : L
     at = (flow_of s).at
 
     good : Good base (record { mem = w; dev = d })
-    good = record { sound-dev = proper.sound; mem_bytes = bytes; mem_below = below; table_below = omega (arith, proper.size) }
+    good = record { sound_dev = proper.sound; mem_bytes = bytes; mem_below = below; table_below = omega (arith, proper.size) }
 
     way : Underway base u (world d' (flow_of s) w' j' tb m)
     way = at_step (Underway base u) s d' w' j' tb m (subst (AtEnd (Underway base u)) (sym goes) (go_underway base u good lent act))
@@ -153,7 +151,7 @@ module _ (again chip : Bool) (o : List ℕ) (time pace base : ℕ) (k : Core) (y
 
     pub carried_made : q.verdict ≡ Verdict.Accepted
         → told_done Heard.Nothing q (remaining q.verdict (working x tb' b m p) new) w' s' j₂ ≡ told_after (replicate (length s) 0) used (perform base lends (levelled (turns_of again time pace)) (world_of (whole k old) w j used))
-    carried_made v = rw ran.cleared-staging (stands_new q (working x tb' b m p) new Heard.Nothing w' (replicate (length s) 0) j₂ v (ended.told-made (replicate (length s) 0) v))
+    carried_made v = rw ran.cleared_staging (stands_new q (working x tb' b m p) new Heard.Nothing w' (replicate (length s) 0) j₂ v (ended.told_made (replicate (length s) 0) v))
 
     pub carried_unmade : {why : Refusal} → q.verdict ≡ Verdict.Refused why → (w'' t'' j'' : List ℕ) {at : ℕ} → at ≡ (flow_of r).at → RolledBack base used at w' w'' tb' t'' j₂ j''
         → told_done Heard.Nothing q (remaining q.verdict (working x t'' b m p) (working x t'' b' m' p')) w'' s' j''
@@ -161,8 +159,8 @@ module _ (again chip : Bool) (o : List ℕ) (time pace base : ℕ) (k : Core) (y
     carried_unmade {why} v w'' t'' j'' is back₀ =
         let back = rw is at back₀ in
         let kept : t'' ≡ tb = table_back base lends (turns_of again time pace) (whole k old) w j used proper bytes below fits r (whole k new) w' j' tb' m' goes j₂ ended.front ended.long w'' t'' j'' back in
-        rw ran.cleared-staging
+        rw ran.cleared_staging
         (stands_old q (working x t'' b m p) (working x t'' b' m' p') Heard.Nothing w'' (replicate (length s) 0) j'' v
         (ap (λ (z : Done). told_done Heard.Nothing z (working x t'' b m p) w'' (replicate (length s) 0) j'') (ended.core_kept why v)
         ∙ ap (λ (t : List ℕ). told_done Heard.Nothing (refused_by k (Verdict.Refused why) used) (working x t b m p) w'' (replicate (length s) 0) j'') kept
-        ∙ told_back base lends (turns_of again time pace) (whole k old) w j used proper bytes below fits r (whole k new) w' j' tb' m' goes j₂ ended.front ended.long w'' t'' j'' back (replicate (length s) 0) (refusal_number why) (ended.told-unmade why v)))
+        ∙ told_back base lends (turns_of again time pace) (whole k old) w j used proper bytes below fits r (whole k new) w' j' tb' m' goes j₂ ended.front ended.long w'' t'' j'' back (replicate (length s) 0) (refusal_number why) (ended.told_unmade why v)))

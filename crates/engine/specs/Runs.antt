@@ -37,7 +37,7 @@ TakesTurns again chip o time pace base lent t r w w' j j' tb tb' b b' m m' p p' 
 -- and staging is zero
 pub record RunsAll (again chip : Bool) (o : List ℕ) (time pace base : ℕ) (t : Flow) (r : Step) (w w' s s' j j' tb tb' b b' m m' p p' : List ℕ) : Type 0 where
   pub does : TakesTurns again chip o time pace base (lending (length s)) t r w w' j j' tb tb' b b' m m' p p'
-  pub cleared-staging : s' ≡ replicate (length s) 0
+  pub cleared_staging : s' ≡ replicate (length s) 0
 
 -- the steps of a service, or of a run
 abbrev pub turns_of : Bool → ℕ → ℕ → Act (Unit {0})
@@ -58,9 +58,9 @@ pub record Begins (again : Bool) (time : ℕ) (s : Scalars) (r : Flow) (b b' p :
 -- how an act of turns ended that began with core k and arrays x and came, in s₀ and then in s, to arrays x', window w' and journal j: all that is
 -- there where it is accepted; and where it is refused, its number, and that nothing is changed but window, arrays and the journal behind its end
 pub record Ended (k : Core) (x x' : Arrays) (s₀ : Step) (r : Done) (base : ℕ) (lent : Lent) (act : Act (Unit {0})) (w j₀ w' j j' : List ℕ) (used : ℕ) : Type 0 where
-  pub told-made : (z : List ℕ) → r.verdict ≡ Verdict.Accepted
+  pub told_made : (z : List ℕ) → r.verdict ≡ Verdict.Accepted
       → told_done Heard.Nothing r x' w' z j' ≡ told_after z used (perform base lent (levelled act) (world_of (whole k x) w j₀ used))
-  pub told-unmade : (why : Refusal) → r.verdict ≡ Verdict.Refused why
+  pub told_unmade : (why : Refusal) → r.verdict ≡ Verdict.Refused why
       → perform base lent (levelled act) (world_of (whole k x) w j₀ used) ≡ unmade (refusal_number why) (cleared (world_of (whole k x) w j₀ used))
   pub core_kept : (why : Refusal) → r.verdict ≡ Verdict.Refused why → r ≡ refused_by k (Verdict.Refused why) used
   pub front : take (flow_of s₀).at j' ≡ take (flow_of s₀).at j

@@ -3,6 +3,7 @@
 // core by value, and its arrays lent (`run_in`). A call on a device by value takes it apart once and puts it together once. (Copies of the device are
 // what a short run would spend most of its time on.)
 #![tactic(auto)]
+
 ghost use Rattle.std.specs.Prelude.{true, ◌&&◌, ◌≡◌, ◌+◌, ◌^◌, ◌≤◌, eqb, length};
 ghost use Rattle.rules.specs.View.{view};
 ghost use Rattle.rules.specs.Calls.{verdict_number, wrong, run as run_call, service as service_call, told_acted, Spared, after};

@@ -14,7 +14,6 @@ use Rattle.rules.specs.State.{Device}
 use Rattle.rules.specs.View.{view}
 use Rattle.rules.specs.declared.Refusal.{Refusal}
 use Rattle.rules.specs.declared.Verdict.{Verdict}
-use Rattle.rules.specs.declared.Verdict.TheVariants as Verdict
 use Rattle.rules.proofs.Told.{refusal_suc}
 use Rattle.image.specs.Image.{image_of, device_in, is_image}
 use Rattle.captures.specs.declared.Captured.{Captured}

@@ -1,5 +1,5 @@
 -- One machine seen through another (crate `rules`, proofs/Through): what is there in the other is lifted to the one that is seen. Assumes nothing.
-use mathlib.Core.List.{List, []}
+use mathlib.Core.List.{List}
 use mathlib.Core.Path.{◌≡◌, refl, sym, ap, ◌∙◌}
 use Prim.Native.Nat.{ℕ}
 use native.Mathlib.Omega.{arith}

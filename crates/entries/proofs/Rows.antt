@@ -14,7 +14,6 @@ use Rattle.rules.specs.Calls.{Told, told, number_told, device_told, heard_told, 
 use Rattle.rules.specs.Carry.{After, made, unmade}
 use Rattle.rules.specs.State.{Device}
 use Rattle.rules.specs.declared.Heard.{Heard}
-use Rattle.rules.specs.declared.Heard.TheVariants as Heard
 use Rattle.rules.proofs.Along.{Along, make_along, back_along}
 use Rattle.rules.proofs.Bench.{Held, RowCall, act, read, amiss, amiss_back, read_number, ended, ended_amiss, make_held, back_held}
 use Rattle.rules.proofs.CallLaws.{AsGiven, act_as_given, back_as_given}

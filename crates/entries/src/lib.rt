@@ -1,6 +1,7 @@
 // The C entries: for C or Rust to link. Each is thin: image to device, the call, device to image; docs/ABI.md says what they are given and answer.
 // Their contracts are those of the calls between two images (specs/Entry.antt).
 #![tactic(auto)]
+
 ghost use Rattle.std.specs.Prelude.{[], ◌≡◌, ◌%◌, ◌^◌, length};
 ghost use Rattle.rules.specs.Calls.{verdict_number, after, after_back, after_read, write, inputs, pending, run, service, ack};
 ghost use Rattle.rules.specs.View.{view};

@@ -13,8 +13,6 @@ use Rattle.rules.proofs.Steps.{fetch-inside, in_window}
 use Rattle.words.specs.Sizes.{a_size, Sized}
 use Rattle.words.specs.Widths.{MemoryWidth}
 use Rattle.words.proofs.Laws.{modulo_none}
-use Rattle.act.specs.Worlds.{walked}
-use Rattle.act.specs.declared.Walk.TheVariants as Walk
 use Rattle.act.proofs.Laws.{window-done}
 use Rattle.memory.specs.Places.{holding, place_of}
 use Rattle.memory.specs.declared.Place.{Place}

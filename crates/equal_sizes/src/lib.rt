@@ -3,6 +3,7 @@
 // it falls and whether its record fits; the loops that ask decide every refusal.
 // Each contract says that the function does the steps of its tree (crate `rules`, specs/Minor.antt), whatever the rest of the world is.
 #![tactic(auto)]
+
 ghost use Rattle.std.specs.Prelude.{◌≡◌, ◌+◌, ◌*◌, ◌%◌, ◌^◌, ◌<◌, ◌≤◌, true, length};
 ghost use Rattle.rules.specs.Act.{store, window as in_window};
 ghost use Rattle.rules.specs.Minor.{move_unit, move_units, move_sizes};

@@ -17,7 +17,7 @@ use Rattle.rules.specs.Fields.{fields_of, own_of, parts_of, number_of, bits_of, 
 use Rattle.rules.specs.State.{Controller, Device}
 use Rattle.rules.specs.With.{with_priorities}
 use Rattle.rules.proofs.BytesLaws.{length_bytes, value_of_bytes, length_part, bytes-part, part_behind, part-first}
-use Rattle.rules.proofs.FieldLaws.{sizes, bit_parts, Sound, sized, levels-long, spot, Real, bits_most, holds_fits_in, holds-number, in_three}
+use Rattle.rules.proofs.FieldLaws.{sizes, bit_parts, Sound, sized, levels_long, spot, Real, bits_most, holds_fits_in, holds-number, in_three}
 use Rattle.rules.proofs.Powers.{low-low}
 use Rattle.rules.proofs.Proper.{Proper}
 use Rattle.rules.proofs.PartLaws.{Within}
@@ -162,13 +162,13 @@ module _ (d : Device) (s : Sound d) (t : length d.table ≡ 2048) where
   unfolding controller_in bits_of number_of spot
   own zero h =
       made_of (controller d.controllers 0) (at_image (MASKS 0) (lit< tt) (lit< tt)) (at_image (FORCED 0) (lit< tt) (lit< tt)) (at_image (LINES 0) (lit< tt) (lit< tt))
-      (levels 0 256 (λ i l. at_number (SOURCE 0 i) l (omega (arith, l))) (levels-long d s 0 (lit< tt))) (at_image (CONFIG 0) (lit< tt) (lit< tt))
+      (levels 0 256 (λ i l. at_number (SOURCE 0 i) l (omega (arith, l))) (levels_long d s 0 (lit< tt))) (at_image (CONFIG 0) (lit< tt) (lit< tt))
   own (suc zero) h =
       made_of (controller d.controllers 1) (at_image (MASKS 1) (lit< tt) (lit< tt)) (at_image (FORCED 1) (lit< tt) (lit< tt)) (at_image (LINES 1) (lit< tt) (lit< tt))
-      (levels 1 320 (λ i l. at_number (SOURCE 1 i) l (omega (arith, l))) (levels-long d s 1 (lit< tt))) (at_image (CONFIG 1) (lit< tt) (lit< tt))
+      (levels 1 320 (λ i l. at_number (SOURCE 1 i) l (omega (arith, l))) (levels_long d s 1 (lit< tt))) (at_image (CONFIG 1) (lit< tt) (lit< tt))
   own (suc (suc zero)) h =
       made_of (controller d.controllers 2) (at_image (MASKS 2) (lit< tt) (lit< tt)) (at_image (FORCED 2) (lit< tt) (lit< tt)) (at_image (LINES 2) (lit< tt) (lit< tt))
-      (levels 2 384 (λ i l. at_number (SOURCE 2 i) l (omega (arith, l))) (levels-long d s 2 (lit< tt))) (at_image (CONFIG 2) (lit< tt) (lit< tt))
+      (levels 2 384 (λ i l. at_number (SOURCE 2 i) l (omega (arith, l))) (levels_long d s 2 (lit< tt))) (at_image (CONFIG 2) (lit< tt) (lit< tt))
   own (suc (suc (suc c))) h = absurd (omega arith)
 
   -- with the bits that they have in the mode, or more
@@ -255,7 +255,7 @@ proper_in b h =
             ),
           ),
         );
-        table-bytes = bytes-part b 0 2048 h;
+        table_bytes = bytes-part b 0 2048 h;
       };
       size = length_part b 0 2048;
     }

@@ -1,5 +1,6 @@
 // The image of a device: a device laid down as 8,720 bytes, and read from them. docs/ABI.md has the layout, specs/Image.antt the definition.
 #![tactic(auto)]
+
 ghost use Rattle.std.specs.Prelude.{cond, map, ◌≡◌, ℕ, ◌+◌, ◌*◌, ◌%◌, ◌≤◌, ◌<◌, max, length, get_or, replicate};
 ghost use Rattle.rules.specs.Bytes.{splice, part};
 ghost use Rattle.rules.specs.Fields.{joined, own_of};

@@ -2,7 +2,6 @@
 use Rattle.std.proofs.Math.Option.{Option, none, some}
 use Rattle.std.specs.Prelude.{ℕ}
 use Rattle.intc.specs.declared.Cell.{Cell}
-use Rattle.intc.specs.declared.Cell.TheVariants as Cell
 
 abbrev pub reads : Cell → Option ℕ
 reads (Cell.Value v) = some v

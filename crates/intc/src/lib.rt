@@ -1,6 +1,7 @@
 // The registers of an interrupt controller: reads, and writes on the controller and on the device around it. Matches on offset and size go
 // one number at a time. Quoted words are document 01's.
 #![tactic(auto)]
+
 ghost use Rattle.std.specs.Prelude.{◌≡◌, ◌≤◌, ◌<◌, set};
 ghost use Rattle.rules.specs.View.{view_controller};
 ghost use Rattle.rules.specs.Bytes.{bytes, splice};

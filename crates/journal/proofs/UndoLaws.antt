@@ -12,7 +12,7 @@ use Rattle.rules.specs.Bytes.{bytes, number, part, splice}
 use Rattle.rules.specs.Carry.{Machine, legal, there, index_of, bytes_of, with_bytes_of, stored}
 use Rattle.rules.specs.State.{Device}
 use Rattle.rules.specs.TakeBack.{kind, width, place, value}
-use Rattle.rules.proofs.BytesLaws.{get_d_part, part-part}
+use Rattle.rules.proofs.BytesLaws.{get_or-part, part-part}
 use Rattle.rules.proofs.Cut.{part_cut}
 use Rattle.memory.specs.Places.{holding, place_of}
 use Rattle.journal.specs.Undoing.{machine_of, Undone, undo_as, undo_line, undo_lines}
@@ -70,8 +70,8 @@ module _ (base : ℕ) (j : List ℕ) (p : ℕ) {k n a v : ℕ}
     read : (m : Machine) → undo_line base (part j p 16) m ≡ undo_as base k n a v m
     unfolding undo_line place value
     read m =
-        let K : kind (part j p 16) ≡ k = get_d_part j p 16 2 (omega arith) ∙ sym (kind-is ∙ number_one j (p + 2)) in
-        let N : width (part j p 16) ≡ n = get_d_part j p 16 3 (omega arith) ∙ sym (width_is ∙ number_one j (p + 3)) in
+        let K : kind (part j p 16) ≡ k = get_or-part j p 16 2 (omega arith) ∙ sym (kind-is ∙ number_one j (p + 2)) in
+        let N : width (part j p 16) ≡ n = get_or-part j p 16 3 (omega arith) ∙ sym (width_is ∙ number_one j (p + 3)) in
         let A : place (part j p 16) ≡ a = ap number (part-part j p 16 4 4 (omega arith)) ∙ sym place_is in
         let O : value (part j p 16) ≡ v = ap number (part-part j p 16 8 8 (omega arith)) ∙ sym value_is in
         rw (K, N, A, O)

@@ -1,5 +1,6 @@
 // The journal: its records, the stores that write them, and their undoing. Document 01, "Journal records".
 #![tactic(auto)]
+
 ghost use Rattle.std.specs.Prelude.{List, ◌≡◌, ℕ, ◌+◌, ◌-◌, ◌/◌, ◌≤◌, leb, length, drop};
 ghost use Rattle.rules.specs.Act.{store, window as in_window, table as in_table};
 ghost use Rattle.rules.specs.Bytes.{part, splice};

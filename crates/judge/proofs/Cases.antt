@@ -9,25 +9,21 @@ use Rattle.rules.proofs.BytesLaws.{part-part}
 use Rattle.captures.specs.declared.Flaw.TheVariants as Flaw
 use Rattle.captures.specs.Capture.{mark_of, kind_in, width_of, address_of, value_of, flaw_of, record_at}
 use Rattle.captures.specs.declared.Due.{Due}
-use Rattle.captures.specs.declared.Due.TheVariants as Due
 use Rattle.judge.specs.declared.Side.{Side}
 use Rattle.judge.specs.declared.Plan.{Plan}
 use Rattle.judge.specs.declared.Place.{Place}
 use Rattle.judge.specs.declared.Walk.{Walk}
-use Rattle.judge.specs.declared.Walk.TheVariants as Walk
 use Rattle.judge.specs.declared.Seen.{Seen}
 use Rattle.judge.specs.declared.Record.{Record}
-use Rattle.judge.specs.declared.Record.TheVariants as Record
 use Rattle.judge.specs.declared.Course.{Course}
-use Rattle.judge.specs.declared.Course.TheVariants as Course
 use Rattle.judge.specs.Walks.{a_unit, Parted, Narrow, Fitting, Within, Sane, Safe, side_of, reads_of, plan_of, place_at, next_unit, advanced, fetch_on, ending_of, moves_from, writes_from, reads_from, start_of, move_on, read_on, write_on, onward_of, unit_at, source_byte, source_bytes, source_number, place_of, due_of, seen_in, unless_unfit, looked_at, meets_due, walk_on, step_of, on_all}
 
 -- ---- a size and its unit
 
 pub small : (n : ℕ) → a_size n → n < 4 → Parted n n
 unfolding unit_of
-small n (inl e) h = rw e (record { is_unit = refl; which = inl refl; some_unit = lit< tt; unit_most = lit≤ tt; some_units = lit≤ tt; units-most = lit≤ tt })
-small n (inr (inl e)) h = rw e (record { is_unit = refl; which = inr (inl refl); some_unit = lit< tt; unit_most = lit≤ tt; some_units = lit≤ tt; units-most = lit≤ tt })
+small n (inl e) h = rw e (record { is_unit = refl; which = inl refl; some_unit = lit< tt; unit_most = lit≤ tt; some_units = lit≤ tt; units_most = lit≤ tt })
+small n (inr (inl e)) h = rw e (record { is_unit = refl; which = inr (inl refl); some_unit = lit< tt; unit_most = lit≤ tt; some_units = lit≤ tt; units_most = lit≤ tt })
 small n (inr (inr (inl e))) h = absurd (omega arith)
 small n (inr (inr (inr (inl e)))) h = absurd (omega arith)
 small n (inr (inr (inr (inr e)))) h = absurd (omega arith)
@@ -36,9 +32,9 @@ pub large : (n : ℕ) → a_size n → 4 ≤ n → Parted n 4
 unfolding unit_of
 large n (inl e) h = absurd (omega arith)
 large n (inr (inl e)) h = absurd (omega arith)
-large n (inr (inr (inl e))) h = rw e (record { is_unit = refl; which = inr (inr refl); some_unit = lit< tt; unit_most = lit≤ tt; some_units = lit≤ tt; units-most = lit≤ tt })
-large n (inr (inr (inr (inl e)))) h = rw e (record { is_unit = refl; which = inr (inr refl); some_unit = lit< tt; unit_most = lit≤ tt; some_units = lit≤ tt; units-most = lit≤ tt })
-large n (inr (inr (inr (inr e)))) h = rw e (record { is_unit = refl; which = inr (inr refl); some_unit = lit< tt; unit_most = lit≤ tt; some_units = lit≤ tt; units-most = lit≤ tt })
+large n (inr (inr (inl e))) h = rw e (record { is_unit = refl; which = inr (inr refl); some_unit = lit< tt; unit_most = lit≤ tt; some_units = lit≤ tt; units_most = lit≤ tt })
+large n (inr (inr (inr (inl e)))) h = rw e (record { is_unit = refl; which = inr (inr refl); some_unit = lit< tt; unit_most = lit≤ tt; some_units = lit≤ tt; units_most = lit≤ tt })
+large n (inr (inr (inr (inr e)))) h = rw e (record { is_unit = refl; which = inr (inr refl); some_unit = lit< tt; unit_most = lit≤ tt; some_units = lit≤ tt; units_most = lit≤ tt })
 
 -- ---- a side
 
@@ -55,8 +51,8 @@ a_side code off s z p o = (
     some_unit = p.some_unit;
     unit_most = p.unit_most;
     some_size = z.positive;
-    size-most = z.most;
-    more_most = omega (arith, p.units-most, p.some_units);
+    size_most = z.most;
+    more_most = omega (arith, p.units_most, p.some_units);
     modulo_most = omega arith;
   },
 )
@@ -404,18 +400,18 @@ module _ (p : Plan) (sources : List ℕ) (origin i : ℕ) (w : Walk) (x : Seen) 
   gone_on e f = rw (← asked, e, f)
 
 -- beyond its end a list has nothing
-pub get_d_past : (l : List ℕ) (i : ℕ) → length l ≤ i → 0 ≡ get_or l i 0
-get_d_past [] i h = refl
-get_d_past (x ∷ l) zero h = absurd (omega arith)
-get_d_past (x ∷ l) (suc i) h = get_d_past l i (omega arith)
+pub get_or_past : (l : List ℕ) (i : ℕ) → length l ≤ i → 0 ≡ get_or l i 0
+get_or_past [] i h = refl
+get_or_past (x ∷ l) zero h = absurd (omega arith)
+get_or_past (x ∷ l) (suc i) h = get_or_past l i (omega arith)
 
 -- byte b of a record, from a list
 module _ (l : List ℕ) (place b : ℕ) (h : b < 16) where
   pub no_record : length l / 16 < place → 0 ≡ get_or l (16 * place + b) 0
-  no_record e = get_d_past l (16 * place + b) (omega arith)
+  no_record e = get_or_past l (16 * place + b) (omega arith)
 
   pub no_byte : length l ≤ place * 16 + b → 0 ≡ get_or l (16 * place + b) 0
-  no_byte e = get_d_past l (16 * place + b) (omega arith)
+  no_byte e = get_or_past l (16 * place + b) (omega arith)
 
   pub the_byte : get_or l (place * 16 + b) 0 ≡ get_or l (16 * place + b) 0
   the_byte = ap (λ (k : ℕ). get_or l (k + b) 0) (mul_comm place 16)

@@ -11,15 +11,12 @@ use Rattle.rules.specs.Words.{wrap32}
 use Rattle.rules.proofs.BoolLaws.{and_right}
 use Rattle.rules.proofs.BytesLaws.{value_of_bytes}
 use Rattle.captures.specs.declared.Due.{Due}
-use Rattle.captures.specs.declared.Due.TheVariants as Due
 use Rattle.captures.specs.declared.Judged.{Judged}
-use Rattle.captures.specs.declared.Judged.TheVariants as Judged
 use Rattle.captures.specs.Capture.{Access, reads, writes, rest, read_as, wrote_as, ended, judge, value_of, record_at}
 use Rattle.captures.proofs.Tails.{gathered}
 use Rattle.judge.specs.declared.Plan.{Plan}
 use Rattle.judge.specs.declared.Place.{Place}
 use Rattle.judge.specs.declared.Walk.{Walk}
-use Rattle.judge.specs.declared.Walk.TheVariants as Walk
 use Rattle.judge.specs.declared.Seen.{Seen}
 use Rattle.judge.specs.Walks.{Fitting, side_of, reads_of, plan_of, place_at, next_unit, advanced, fetch_on, ending_of, moves_from, writes_from, reads_from, move_on, read_on, write_on, onward_of, unit_at, source_number, place_of, due_of, meets_due, ended_at}
 use Rattle.judge.proofs.Known.{Known, nothing_known, number_known, longer, more_known}

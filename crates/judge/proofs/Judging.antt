@@ -13,17 +13,13 @@ use Rattle.rules.proofs.BytesLaws.{part-first}
 use Rattle.captures.specs.declared.Due.{Due}
 use Rattle.captures.specs.declared.Flaw.{Flaw}
 use Rattle.captures.specs.declared.Judged.{Judged}
-use Rattle.captures.specs.declared.Judged.TheVariants as Judged
 use Rattle.captures.specs.declared.Captured.{Captured}
-use Rattle.captures.specs.declared.Captured.TheVariants as Captured
 use Rattle.captures.specs.Capture.{Access, ended, judge, board, judged, flaw_of, access_of, records, is_cut, record_at, accesses_of, unless_flawed, captured}
 use Rattle.captures.proofs.Tails.{gathered, fetches, pass_seen, end_seen}
 use Rattle.captures.proofs.Files.{value_fits_width}
 use Rattle.judge.specs.declared.Plan.{Plan}
 use Rattle.judge.specs.declared.Walk.{Walk}
-use Rattle.judge.specs.declared.Walk.TheVariants as Walk
 use Rattle.judge.specs.declared.Course.{Course}
-use Rattle.judge.specs.declared.Course.TheVariants as Course
 use Rattle.judge.specs.Walks.{Fitting, reads_of, plan_of, moves_from, reads_from, start_of, onward_of, due_of, seen_in, unless_unfit, looked_at, meets_due, walk_on, look_past, step_of, on_all, ended_at, unless_cut, verdict_of}
 use Rattle.judge.proofs.Follow.{access_in, left_of_lem, nothing_left, Ready, at_end, got_on, to_on, stepping, ready_on, starts, ready-first}
 

@@ -2,10 +2,10 @@
 use Rattle.std.proofs.Common.{◌≡◌, ℕ, zero, suc, ◌+◌, ◌-◌, ◌*◌, ◌/◌, ◌%◌, ◌^◌, ◌<◌, ◌≤◌, Bool, true, false, cond, ltb, List, [], ◌∷◌, ◌++◌, length, get_or, sym, refl, ap, ◌∙◌, inl, inr, mod-eq_of_lt, suc-mul, add_comm, add-one, arith, length-append, get_or-append-add, ltb-false, ltb-true, le-ltb, lt-ltb}
 use lib.ListN.{get_or-append}
 use Rattle.rules.specs.Bytes.{Bytes, bytes, number, part}
-use Rattle.rules.proofs.BytesLaws.{part_append, part-part, get_d_part, length_part, length_bytes, bytes-part, bytes-add, bytes_of_value, number_append, value_lt}
+use Rattle.rules.proofs.BytesLaws.{part_append, part-part, get_or-part, length_part, length_bytes, bytes-part, bytes-add, bytes_of_value, number_append, value_lt}
 use Rattle.captures.specs.Capture.{value_of, record_at}
 use Rattle.judge.specs.Walks.{a_unit, source_byte, source_bytes, source_number}
-use Rattle.judge.proofs.Cases.{get_d_past}
+use Rattle.judge.proofs.Cases.{get_or_past}
 
 -- ---- in which record byte j stands
 
@@ -101,12 +101,12 @@ module _ (file : List ℕ) (unit : ℕ) where
             let h : m < unit = ltb-true m unit e in
             let w = within unit i m u h in
             let place : 16 * i + (16 - unit) + m ≡ 16 * i + (16 - unit + (i * unit + m) % unit) = omega (arith, w.1) in
-            get_d_part file (16 * i + (16 - unit)) unit m h
+            get_or-part file (16 * i + (16 - unit)) unit m h
             ∙ ap (λ (n : ℕ). get_or file n 0) place
             ∙ sym (in_file (suc i) (i * unit + m) i w.0 (omega arith))
         by false e =
             let h : unit ≤ m = ltb-false m unit e in
-            sym (get_d_past (part file (16 * i + (16 - unit)) unit) m (omega (arith, h, length_part file (16 * i + (16 - unit)) unit)))
+            sym (get_or_past (part file (16 * i + (16 - unit)) unit) m (omega (arith, h, length_part file (16 * i + (16 - unit)) unit)))
             ∙ sym (past_file (suc i) (i * unit + m) (above unit i m u h))
 
     pub more_known : Known (suc i) (got ++ bytes unit (value_of (record_at file i)))

@@ -7,24 +7,17 @@ use Rattle.rules.specs.Bytes.{number}
 use Rattle.rules.specs.Minor.{ESG, ssize, dsize, minor_bytes}
 use Rattle.rules.specs.Words.{has, size_of, unit_of, wholes, wrap32, signed, modulo_add, count_of}
 use Rattle.captures.specs.declared.Due.{Due}
-use Rattle.captures.specs.declared.Due.TheVariants as Due
 use Rattle.captures.specs.declared.Flaw.{Flaw}
-use Rattle.captures.specs.declared.Flaw.TheVariants as Flaw
 use Rattle.captures.specs.declared.Judged.{Judged}
-use Rattle.captures.specs.declared.Judged.TheVariants as Judged
 use Rattle.captures.specs.declared.Captured.{Captured}
-use Rattle.captures.specs.declared.Captured.TheVariants as Captured
 use Rattle.captures.specs.Capture.{kind_in, width_of, address_of, value_of, flaw_of, record_at}
 use Rattle.judge.specs.declared.Side.{Side}
 use Rattle.judge.specs.declared.Plan.{Plan}
 use Rattle.judge.specs.declared.Place.{Place}
 use Rattle.judge.specs.declared.Walk.{Walk}
-use Rattle.judge.specs.declared.Walk.TheVariants as Walk
 use Rattle.judge.specs.declared.Seen.{Seen}
 use Rattle.judge.specs.declared.Record.{Record}
-use Rattle.judge.specs.declared.Record.TheVariants as Record
 use Rattle.judge.specs.declared.Course.{Course}
-use Rattle.judge.specs.declared.Course.TheVariants as Course
 
 -- ---- what a descriptor asks for
 
@@ -61,7 +54,7 @@ pub record Parted (size unit : ℕ) : Type 0 where
   pub some_unit : 0 < unit
   pub unit_most : unit ≤ 4
   pub some_units : 1 ≤ size / unit
-  pub units-most : size / unit ≤ 8
+  pub units_most : size / unit ≤ 8
 
 -- what holds of a side, and keeps the code's sums within their types
 pub record Narrow (s : Side) : Type 0 where
@@ -71,7 +64,7 @@ pub record Narrow (s : Side) : Type 0 where
   pub some_unit : 0 < s.unit
   pub unit_most : s.unit ≤ 4
   pub some_size : 0 < s.size
-  pub size-most : s.size ≤ 32
+  pub size_most : s.size ≤ 32
   pub more_most : s.more < 8
   pub modulo_most : s.modulo < 32
 

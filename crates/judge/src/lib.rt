@@ -2,6 +2,7 @@
 // rules ask for, and the values read stand in the records themselves. Each contract is an equation with a definition of specs/Walks.antt; that the whole
 // is the rules' judge (crate `captures`) is said once, at `captured`. Quoted words are the documents'.
 #![tactic(auto)]
+
 ghost use Rattle.std.specs.Prelude.{◌≡◌, ◌+◌, ◌*◌, ◌^◌, ◌<◌, ◌≤◌, true, ◌&&◌, ◌||◌, length, ◌==◌, nat_lt, slice_index};
 ghost use Rattle.rules.specs.Bytes.{part};
 ghost use Rattle.rules.specs.Minor.{ESG, ssize};

@@ -12,7 +12,7 @@ use lib.Seq.{drop-drop, length-take-le}
 use borrow.Author.Tests.{lt-ltb, le-ltb, eq-eqb, ne_eqb}
 use Rattle.rules.specs.Bytes.{part, splice}
 use Rattle.rules.specs.TakeBack.{marked}
-use Rattle.rules.proofs.BytesLaws.{get_d_part, length_part, splice_append, splice_comm}
+use Rattle.rules.proofs.BytesLaws.{get_or-part, length_part, splice_append, splice_comm}
 use Rattle.rules.proofs.Cut.{part_cut}
 use Rattle.listing.specs.Lines.{digit_of, digits, line_text, text, marked_first}
 
@@ -113,11 +113,11 @@ module _ (l : List ℕ) (r : ℕ) (fits : r * 16 + 16 ≤ length l) where
 
 module _ (l : List ℕ) (at : ℕ) where
   first : get_or (part l at 16) 0 0 ≡ get_or l at 0
-  first = get_d_part l at 16 0 (omega arith) ∙ ap (λ (i : ℕ). get_or l i 0) (add-zero at)
+  first = get_or-part l at 16 0 (omega arith) ∙ ap (λ (i : ℕ). get_or l i 0) (add-zero at)
 
   pub mark_second : get_or l at 0 ≡ 0x4A → eqb (get_or l (at + 1) 0) 0x52 ≡ marked (part l at 16)
   unfolding marked
-  mark_second e = rw (first, eq-eqb (get_or l at 0) 0x4A e, get_d_part l at 16 1 (omega arith))
+  mark_second e = rw (first, eq-eqb (get_or l at 0) 0x4A e, get_or-part l at 16 1 (omega arith))
 
   pub mark_wrong : (get_or l at 0 ≡ 0x4A → ⊥) → false ≡ marked (part l at 16)
   unfolding marked

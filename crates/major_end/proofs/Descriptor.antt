@@ -1,5 +1,5 @@
 -- Descriptors as the code stores them, and asks their half way mark. Assumes nothing.
-use Rattle.std.proofs.Common.{◌≡◌, ℕ, ◌+◌, ◌*◌, ◌/◌, ◌%◌, ◌^◌, ◌<◌, ◌≤◌, Bool, true, false, not, eqb, List, ◌++◌, sym, ap, ◌∙◌, arith, eq-eqb, ne_eqb}
+use Rattle.std.proofs.Common.{◌≡◌, ℕ, ◌+◌, ◌*◌, ◌/◌, ◌%◌, ◌^◌, ◌<◌, Bool, true, false, not, eqb, ◌++◌, sym, ap, ◌∙◌, arith, eq-eqb, ne_eqb}
 use Rattle.rules.specs.Bytes.{bytes, number, part}
 use Rattle.rules.specs.Minor.{tcd_bytes, wound, smod, dmod, store_words, store_whole, halfway}
 use Rattle.rules.specs.Words.{has, gain, lose, modulo_add, count_of}

@@ -2,6 +2,7 @@
 // Each contract says that the function does the steps of its tree (crate `rules`, specs/Minor.antt), whatever the rest of the world is.
 // Quoted words are document 01's; names are those of the Rust, where it has them.
 #![tactic(auto)]
+
 ghost use Rattle.std.specs.Prelude.{◌≡◌, ◌+◌, ◌*◌, ◌%◌, ◌^◌, ◌<◌, [], ◌++◌, length};
 ghost use Rattle.rules.specs.Act.{change, when, MAJORS};
 ghost use Rattle.rules.specs.Scalars.{INT, ERQ, KICK};

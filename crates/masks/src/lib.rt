@@ -1,6 +1,7 @@
 // Masks and registers in parts: some bits of a mask, some bytes of a register, the bits that a command byte names, an offset within a range.
 // Each contract is an equation with a definition of crate `rules` (specs/Lines.antt, specs/Registers.antt).
 #![tactic(auto)]
+
 ghost use Rattle.std.specs.Prelude.{◌≡◌, ◌+◌, ◌^◌, ◌≤◌, ◌<◌};
 ghost use Rattle.rules.specs.Lines.{bits_from, with_bits_from};
 ghost use Rattle.rules.specs.Registers.{within, bytes_in, with_bytes_in, named};

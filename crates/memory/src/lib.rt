@@ -1,5 +1,6 @@
 // Where an access to memory falls. Every access, of a transfer, of a fetched descriptor, of a record undone, asks here and nowhere else.
 #![tactic(auto)]
+
 ghost use Rattle.std.specs.Prelude.{◌≡◌, ◌≤◌};
 ghost use Rattle.memory.specs.Places.{place_of};
 

@@ -18,11 +18,9 @@ use Rattle.rules.proofs.Steps.{and_then, go_bind}
 use Rattle.act.specs.Worlds.{over, world, came_to, on}
 use Rattle.act.specs.declared.Flow.{Flow}
 use Rattle.act.specs.declared.Step.{Step}
-use Rattle.act.specs.declared.Step.TheVariants as Step
 use Rattle.act.proofs.Laws.{on_then, described}
 use Rattle.equal_sizes.specs.Moves.{moved}
 use Rattle.equal_sizes.specs.declared.Moved.{Moved}
-use Rattle.equal_sizes.specs.declared.Moved.TheVariants as Moved
 use Rattle.equal_sizes.specs.declared.Steps.{Steps}
 use Rattle.minor.specs.Passes.{passed}
 use Rattle.minor.specs.Stepping.{steps_of}

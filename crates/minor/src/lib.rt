@@ -1,6 +1,7 @@
 // One minor loop of a channel: document 01, "Descriptors and one minor loop". Its transfer is in crates `equal_sizes` and `unequal_sizes`, what follows it in
 // crate `major_end`. Each contract says that the function does the steps of its tree (crate `rules`, specs/Minor.antt).
 #![tactic(auto)]
+
 ghost use Rattle.std.specs.Prelude.{◌≡◌, ◌≤◌, ◌<◌, ◌^◌};
 ghost use Rattle.rules.specs.Minor.{transfer, pass};
 ghost use Rattle.act.specs.Lent.{◌⇒◌, by};

@@ -18,12 +18,9 @@ use Rattle.rules.specs.Registers.{within, in_blocks, in_table, block_of, offset_
 use Rattle.rules.specs.State.{Device}
 use Rattle.rules.specs.View.{view_priorities}
 use Rattle.rules.specs.declared.Heard.{Heard}
-use Rattle.rules.specs.declared.Heard.TheVariants as Heard
 use Rattle.rules.specs.declared.Reading.TheVariants as Reading
 use Rattle.rules.specs.declared.Refusal.{Refusal}
-use Rattle.rules.specs.declared.Refusal.TheVariants as Refusal
 use Rattle.rules.specs.declared.Verdict.{Verdict}
-use Rattle.rules.specs.declared.Verdict.TheVariants as Verdict
 use Rattle.rules.proofs.BoolLaws.{and_left, and_right, and_both}
 use Rattle.rules.proofs.CallLaws.{wrong-alone}
 use Rattle.rules.proofs.Proper.{Proper}
@@ -44,7 +41,7 @@ use Rattle.closing.specs.declared.Noted.TheVariants.{At, Full}
 use Rattle.closing.proofs.Parts.{same-part, same-busy, same-majors, same-pending, same_taken, every_noted}
 use Rattle.acting.specs.Ending.{begun_at, done_by, cleared_from, Settled, Settles}
 use Rattle.acting.specs.declared.Reached.{Reached}
-use Rattle.acting.proofs.Laws.{told-made, told-cleared, does-goes, counts-noted, taken-noted}
+use Rattle.acting.proofs.Laws.{told_made, told-cleared, does-goes, counts-noted, taken-noted}
 use Rattle.intc.specs.Writes.{InWord}
 use Rattle.masks.proofs.Ranges.{within_true, never}
 use Rattle.dma_read.specs.Access.{Fair, is_priority}
@@ -276,7 +273,7 @@ module _ (k : Core) (s : Reached) (y y' : Arrays) (used : ℕ) (j : List ℕ) (a
 
     act_made : r.verdict ≡ Verdict.Accepted
         → told_done Heard.Nothing r y' w staging j₁ ≡ told_after staging used (perform base lends (levelled act) (world_of (whole k y) w j used))
-    act_made v = told-made k y y' Heard.Nothing used w j w j j₁ fits went.since base lends (levelled act) s n went.later went.left (noted went.levels) r is staging v
+    act_made v = told_made k y y' Heard.Nothing used w j w j j₁ fits went.since base lends (levelled act) s n went.later went.left (noted went.levels) r is staging v
 
     -- the arrays are put back
     act_unmade : {why : Refusal} {j₂ : List ℕ} → r.verdict ≡ Verdict.Refused why → j₂ ≡ cleared_from used j₁
@@ -387,7 +384,7 @@ module _ (k : Core) (x : Arrays) (q q' : List ℕ) (used : ℕ) (j : List ℕ) (
     pub heard_made : r.verdict ≡ Verdict.Accepted
         → told_done h r (taking x q') w staging j₂ ≡ told_after staging used (perform base (lending (length staging)) m (world_of (whole k (taking x q)) w j used))
     heard_made v =
-        told-made k (taking x q) (taking x q') h used w j w j j₂ fits (record { front = refl; long = refl }) base (lending (length staging)) m (record { walk = On used; core = k }) n (omega arith) left
+        told_made k (taking x q) (taking x q') h used w j w j j₂ fits (record { front = refl; long = refl }) base (lending (length staging)) m (record { walk = On used; core = k }) n (omega arith) left
         (taken-noted k (taking x q) p q' used used j counts end) r is staging v
 
     pub heard_unmade : {why : Refusal} {j₃ : List ℕ} → r.verdict ≡ Verdict.Refused why → j₃ ≡ cleared_from used j₂

@@ -9,7 +9,6 @@ use Rattle.rules.specs.declared.Acknowledged.{Acknowledged}
 use Rattle.rules.specs.declared.Acted.{Acted}
 use Rattle.rules.specs.State.{Device}
 use Rattle.rules.specs.declared.Heard.{Heard}
-use Rattle.rules.specs.declared.Heard.TheVariants as Heard
 use Rattle.rules.proofs.Proper.{Proper}
 use Rattle.act.specs.Does.{Does}
 use Rattle.act.specs.Parts.{Arrays, whole, SameLevels, told_done}

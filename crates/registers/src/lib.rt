@@ -3,6 +3,7 @@
 // What is wrong with the arguments is tested in the order of document 01's numbers, before anything is done. What an act can have changed is
 // compared at its end: the fields of numbers 0 to 27, and of the arrays those that it is lent.
 #![tactic(auto)]
+
 ghost use Rattle.std.specs.Prelude.{true, false, ◌≡◌, suc, ◌%◌, ◌^◌, ◌≤◌, ◌<◌, length};
 ghost use Rattle.std.proofs.Math.Option.{some};
 ghost use Rattle.rules.specs.declared.Heard.TheVariants as Heard;

@@ -16,7 +16,6 @@ use Rattle.rules.specs.Carry.{World, Out, ok, no, After, made, unmade, with_devi
 use Rattle.rules.specs.Fields.{bits_of, holds}
 use Rattle.rules.specs.State.{Device}
 use Rattle.rules.specs.declared.Heard.{Heard}
-use Rattle.rules.specs.declared.Heard.TheVariants as Heard
 use Rattle.rules.proofs.CallLaws.{barred_next, not_stopped, either_way, act_stopped}
 use Rattle.rules.proofs.Each.{Rights, at_done, Properly, each_keeps, proper_field}
 use Rattle.rules.proofs.Proper.{Proper}

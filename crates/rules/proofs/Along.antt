@@ -1,7 +1,6 @@
 -- What holds all along a row of a bench's calls and take-backs, accepted or refused: window and journal are as long as at the start, whole records
 -- of the journal are used and no more than it has, and the device is proper. Assumes nothing.
-use mathlib.Core.List.{List}
-use mathlib.Core.Path.{◌≡◌, refl, sym, ap, ap₂, ◌∙◌, subst}
+use mathlib.Core.Path.{◌≡◌, refl, sym, ◌∙◌, subst}
 use Prim.Native.Nat.{ℕ, zero, suc, ◌%◌, ◌≤◌}
 use native.Mathlib.Omega.{arith}
 use lib.ListN.{length, length-append}
@@ -9,7 +8,6 @@ use Rattle.rules.specs.Calls.{Told, told, device_told, wrong_back, after, after_
 use Rattle.rules.specs.Carry.{World, After, made, unmade}
 use Rattle.rules.specs.TakeBack.{take_back}
 use Rattle.rules.specs.declared.Heard.{Heard}
-use Rattle.rules.specs.declared.Heard.TheVariants as Heard
 use Rattle.rules.proofs.Bench.{Held, RowCall, act, read, amiss, amiss_back, ended, make_held, back_held, amiss_ends, amiss_back_ends}
 use Rattle.rules.proofs.BenchWorlds.{world_in, held_of, held-world, held_lasts, make_world, make_through, make_lasts, back_through, wrong_through}
 use Rattle.rules.proofs.Proper.{Proper}

@@ -11,7 +11,6 @@ use Rattle.rules.specs.Carry.{World, After, made, unmade, cleared, perform, lend
 use Rattle.rules.specs.TakeBack.{take_back}
 use Rattle.rules.specs.Calls.{Asked, act_of, wrong, stops, wrong_back, Told, staging_after, world_of, told_after, unless_stopped, after, heard_nothing, after_back, after_read}
 use Rattle.rules.specs.declared.Heard.{Heard}
-use Rattle.rules.specs.declared.Heard.TheVariants as Heard
 use Rattle.rules.proofs.Free.{Seen, seen, Agree}
 use Rattle.rules.proofs.Took.{total, refused}
 use Rattle.rules.proofs.History.{Entry, walk, Alone}

@@ -17,17 +17,17 @@ unfolding splice
 length_splice xs at [] = refl
 length_splice xs at (y ∷ ys) = length-set (splice xs (suc at) ys) at y ∙ length_splice xs (suc at) ys
 
-pub get_d_splice_below : (xs : List ℕ) (at : ℕ) (ys : List ℕ) (i : ℕ) → i < at → get_or (splice xs at ys) i 0 ≡ get_or xs i 0
+pub get_or-splice_below : (xs : List ℕ) (at : ℕ) (ys : List ℕ) (i : ℕ) → i < at → get_or (splice xs at ys) i 0 ≡ get_or xs i 0
 unfolding splice
-get_d_splice_below xs at [] i h = refl
-get_d_splice_below xs at (y ∷ ys) i h =
-    get_or-set_other (splice xs (suc at) ys) at i y 0 (omega arith) ∙ get_d_splice_below xs (suc at) ys i (omega arith)
+get_or-splice_below xs at [] i h = refl
+get_or-splice_below xs at (y ∷ ys) i h =
+    get_or-set_other (splice xs (suc at) ys) at i y 0 (omega arith) ∙ get_or-splice_below xs (suc at) ys i (omega arith)
 
-pub get_d_splice-above : (xs : List ℕ) (at : ℕ) (ys : List ℕ) (i : ℕ) → at + length ys ≤ i → get_or (splice xs at ys) i 0 ≡ get_or xs i 0
+pub get_or-splice_above : (xs : List ℕ) (at : ℕ) (ys : List ℕ) (i : ℕ) → at + length ys ≤ i → get_or (splice xs at ys) i 0 ≡ get_or xs i 0
 unfolding splice
-get_d_splice-above xs at [] i h = refl
-get_d_splice-above xs at (y ∷ ys) i h =
-    get_or-set_other (splice xs (suc at) ys) at i y 0 (omega arith) ∙ get_d_splice-above xs (suc at) ys i (omega arith)
+get_or-splice_above xs at [] i h = refl
+get_or-splice_above xs at (y ∷ ys) i h =
+    get_or-set_other (splice xs (suc at) ys) at i y 0 (omega arith) ∙ get_or-splice_above xs (suc at) ys i (omega arith)
 
 -- a store below or above a splice changes places with it
 pub splice_set_below : (xs : List ℕ) (i v at : ℕ) (ys : List ℕ) → i < at → splice (set xs i v) at ys ≡ set (splice xs at ys) i v
@@ -93,13 +93,13 @@ pub part-splice_below : (xs : List ℕ) (at : ℕ) (ys : List ℕ) (i n : ℕ) �
 unfolding part
 part-splice_below xs at ys i zero h = refl
 part-splice_below xs at ys i (suc n) h =
-    λ k. get_d_splice_below xs at ys i (omega arith) k ∷ part-splice_below xs at ys (suc i) n (omega arith) k
+    λ k. get_or-splice_below xs at ys i (omega arith) k ∷ part-splice_below xs at ys (suc i) n (omega arith) k
 
 pub part-splice-above : (xs : List ℕ) (at : ℕ) (ys : List ℕ) (i n : ℕ) → at + length ys ≤ i → part (splice xs at ys) i n ≡ part xs i n
 unfolding part
 part-splice-above xs at ys i zero h = refl
 part-splice-above xs at ys i (suc n) h =
-    λ k. get_d_splice-above xs at ys i h k ∷ part-splice-above xs at ys (suc i) n (omega arith) k
+    λ k. get_or-splice_above xs at ys i h k ∷ part-splice-above xs at ys (suc i) n (omega arith) k
 
 -- what a splice laid down is there
 pub part-splice-same : (xs : List ℕ) (at : ℕ) (ys : List ℕ) → at + length ys ≤ length xs → part (splice xs at ys) at (length ys) ≡ ys
@@ -205,17 +205,17 @@ bytes-splice xs at [] h l = h
 bytes-splice xs at (y ∷ ys) h l = bytes_set (splice xs (suc at) ys) at y (bytes-splice xs (suc at) ys h (λ i. l (suc i))) (l 0)
 
 -- a part's elements, and a part of a part
-pub get_d_part : (xs : List ℕ) (at n i : ℕ) → i < n → get_or (part xs at n) i 0 ≡ get_or xs (at + i) 0
+pub get_or-part : (xs : List ℕ) (at n i : ℕ) → i < n → get_or (part xs at n) i 0 ≡ get_or xs (at + i) 0
 unfolding part
-get_d_part xs at zero i h = absurd (omega arith)
-get_d_part xs at (suc n) zero h = rw add-zero
-get_d_part xs at (suc n) (suc i) h = get_d_part xs (suc at) n i (omega arith) ∙ ap (λ (k : ℕ). get_or xs k 0) (suc-add at i ∙ sym (add-suc at i))
+get_or-part xs at zero i h = absurd (omega arith)
+get_or-part xs at (suc n) zero h = rw add-zero
+get_or-part xs at (suc n) (suc i) h = get_or-part xs (suc at) n i (omega arith) ∙ ap (λ (k : ℕ). get_or xs k 0) (suc-add at i ∙ sym (add-suc at i))
 
 pub part-part : (xs : List ℕ) (at n i m : ℕ) → i + m ≤ n → part (part xs at n) i m ≡ part xs (at + i) m
 unfolding part
 part-part xs at n i zero h = refl
 part-part xs at n i (suc m) h =
-    λ k. get_d_part xs at n i (omega arith) k ∷ (part-part xs at n (suc i) m (omega arith) ∙ ap (λ (l : ℕ). part xs l m) (add-suc at i)) k
+    λ k. get_or-part xs at n i (omega arith) k ∷ (part-part xs at n (suc i) m (omega arith) ∙ ap (λ (l : ℕ). part xs l m) (add-suc at i)) k
 
 -- the old value of a part, laid over again
 pub part_back : (xs : List ℕ) (at n : ℕ) → Bytes xs → bytes n (number (part xs at n)) ≡ part xs at n

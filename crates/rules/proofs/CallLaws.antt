@@ -16,7 +16,6 @@ use Rattle.rules.specs.TakeBack.{decode_all, take_back}
 use Rattle.rules.specs.Calls.{Asked, write, inputs, pending, run, service, ack, act_of, bad_window, bad_journal, check, wrong, first, barred, stops, wrong_back, Told, told, staging_after, world_of, told_after, unless_stopped, after, heard_nothing, after_back, ToldRead, told_read, after_read}
 use Rattle.rules.specs.State.{Device}
 use Rattle.rules.specs.declared.Heard.{Heard}
-use Rattle.rules.specs.declared.Heard.TheVariants as Heard
 use Rattle.rules.proofs.BoolLaws.{neither}
 use Rattle.rules.proofs.Steps.{bind_ok, go-endless, leave_full, leave_refused}
 use Rattle.rules.proofs.Keeps.{Good}

@@ -14,7 +14,6 @@ use Rattle.rules.specs.Calls.{bad_window, wrong_back}
 use Rattle.rules.specs.View.{view}
 use Rattle.rules.specs.declared.Device.{Device as HeldDevice}
 use Rattle.rules.specs.declared.Heard.{Heard}
-use Rattle.rules.specs.declared.Heard.TheVariants as Heard
 use Rattle.rules.proofs.FieldLaws.{Sound}
 use Rattle.rules.proofs.Keeps.{Good}
 use Rattle.rules.proofs.Typed.{Typed, table-size, sound}
@@ -34,7 +33,7 @@ pub record Start (base : ℕ) (h : Held) : Type 0 where
   pub room : length h.journal ≤ 2 ^ 28
   pub window_passes : bad_window base (length h.window) ≡ false
   pub window_bytes : Bytes h.window
-  pub device-sound : Sound h.device
+  pub device_sound : Sound h.device
   pub table_fits : length h.device.table ≤ 2 ^ 32
 
 -- every value of the declared type will do
@@ -45,7 +44,7 @@ typed_start base d window journal typed room passes bytes = record {
   room = room;
   window_passes = passes;
   window_bytes = bytes;
-  device-sound = sound d typed;
+  device_sound = sound d typed;
   table_fits = omega (arith, table-size d typed);
 }
 
@@ -81,7 +80,7 @@ module _ (base : ℕ) (start : Held) (begins : Start base start) where
 
   good : Good base (world_in start).now
   good = record {
-    sound-dev = begins.device-sound;
+    sound_dev = begins.device_sound;
     mem_bytes = begins.window_bytes;
     mem_below = window_fits base (length start.window) begins.window_passes;
     table_below = begins.table_fits;

@@ -17,7 +17,7 @@ use Rattle.rules.specs.Fields.{bits_of, bits_in, holds, with_field, setting_of, 
 use Rattle.rules.specs.With.{with_table}
 use Rattle.rules.specs.Carry.{Machine, World, no, bytes_of, with_bytes_of, with_device, index_of, there, legal, fetched, stored, recorded, go, Lent}
 use Rattle.rules.proofs.BytesLaws.{length_part, length_splice, bytes-bytes, bytes-splice}
-use Rattle.rules.proofs.FieldLaws.{Sound, put_law, put-sound, holds_fits}
+use Rattle.rules.proofs.FieldLaws.{put_law, put-sound, holds_fits}
 use Rattle.rules.proofs.Proper.{Proper}
 use Rattle.rules.proofs.Typed.{Typed, sound, table-size}
 use Rattle.rules.proofs.Steps.{cutting}
@@ -116,7 +116,7 @@ proper-table i n v d p = record {
   sound = record {
     three = p.sound.three;
     fitting = p.sound.fitting;
-    table-bytes = bytes-splice d.table i (bytes n v) p.sound.table-bytes (bytes-bytes n v);
+    table_bytes = bytes-splice d.table i (bytes n v) p.sound.table_bytes (bytes-bytes n v);
   };
   size = length_splice d.table i (bytes n v) ∙ p.size;
 }

@@ -36,18 +36,18 @@ field_bits chip = joined (bit_parts chip)
 pub record Sound (d : Device) : Type 0 where
   pub three : length d.controllers ≡ 3
   pub fitting : Fitting (bit_parts d.chip) (parts_of d)
-  pub table-bytes : Bytes d.table
+  pub table_bytes : Bytes d.table
 
 pub sized : (d : Device) → Sound d → Sized sizes (parts_of d)
 sized d s = (unfold bit_parts in fitting_sized (bit_parts d.chip) (parts_of d) s.fitting)
 
 -- each controller has 64 level bytes
-pub levels-long : (d : Device) → Sound d → (c : ℕ) → c < 3 → length (controller d.controllers c).levels ≡ 64
+pub levels_long : (d : Device) → Sound d → (c : ℕ) → c < 3 → length (controller d.controllers c).levels ≡ 64
 unfolding parts_of
-levels-long d s zero h = (sized d s).1.1.1.1.1.1.0
-levels-long d s (suc zero) h = (sized d s).1.1.1.1.1.1.1.0
-levels-long d s (suc (suc zero)) h = (sized d s).1.1.1.1.1.1.1.1.0
-levels-long d s (suc (suc (suc c))) h = absurd (omega arith)
+levels_long d s zero h = (sized d s).1.1.1.1.1.1.0
+levels_long d s (suc zero) h = (sized d s).1.1.1.1.1.1.1.0
+levels_long d s (suc (suc zero)) h = (sized d s).1.1.1.1.1.1.1.1.0
+levels_long d s (suc (suc (suc c))) h = absurd (omega arith)
 
 pub within : (d : Device) → Sound d → Within (field_bits d.chip) (fields_of d)
 unfolding field_bits fields_of
@@ -272,7 +272,7 @@ module _ (f : Field) (v : ℕ) (d : Device) (s : Sound d) where
       let p = put_law f v d s.three in
       record {
         three = p.three;
-        table-bytes = rw p.table s.table-bytes;
+        table_bytes = rw p.table s.table_bytes;
         fitting =
             subst (λ c. Fitting (bit_parts c) (parts_of (with_field f v d))) (sym (put_setting CHIP f v d))
             (subst (Fitting (bit_parts d.chip)) (sym p.parts)

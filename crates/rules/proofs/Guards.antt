@@ -59,15 +59,15 @@ module _ (ch : ℕ) (h : ch < 64) where
   pass_guarded : Each guarded (pass ch)
   unfolding guarded legal
   pass_guarded = pass_each ch record {
-    on-window = record { stage_any = λ n. tt; fetch_unit = λ a n l. tt; store_unit = λ a n l. (l, tt) };
+    on_window = record { stage_any = λ n. tt; fetch_unit = λ a n l. tt; store_unit = λ a n l. (l, tt) };
     fetch_own = omega arith;
     store_own = λ a n l b w. (w, omega arith);
-    fetch-link = λ to l. omega arith;
-    store-link = λ to l. (refl, omega arith);
+    fetch_link = λ to l. omega arith;
+    store_link = λ to l. (refl, omega arith);
     put_int = tt;
     put_kick = tt;
     put_erq = tt;
-    put-majors = tt;
+    put_majors = tt;
   }
 
   own_guarded : Each guarded (descriptor ch)

@@ -16,7 +16,6 @@ use Rattle.rules.specs.TakeBack.{take_back}
 use Rattle.rules.specs.Words.{has}
 use Rattle.rules.specs.State.{Device}
 use Rattle.rules.specs.declared.Heard.{Heard}
-use Rattle.rules.specs.declared.Heard.TheVariants as Heard
 use Rattle.rules.proofs.CallLaws.{either_way}
 use Rattle.rules.proofs.Leads.{IfAnswered, Leads, leads_bind, leads_then, leads_done, leads_cond, shrinks}
 

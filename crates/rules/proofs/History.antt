@@ -1,7 +1,7 @@
 -- Any row of calls and take-backs leaves what the calls still standing, made alone in order, leave: for every machine with these laws. Assumes nothing.
 use mathlib.Core.List.{List, [], ◌∷◌}
 use mathlib.Core.Logic.{◌↔◌}
-use mathlib.Core.Path.{◌≡◌, refl, sym, ap, ◌∙◌, subst, subst⁻¹}
+use mathlib.Core.Path.{◌≡◌, refl, sym, ap, ◌∙◌, subst}
 use Prim.Native.Nat.{ℕ}
 use native.Mathlib.Omega.{arith}
 use Rattle.rules.specs.Carry.{After, made, unmade}
@@ -56,9 +56,9 @@ alone_one {make = make} (more {c = c} k e) (more l f) = let p = alone_one k l in
 pub record Laws {A B C O W : Type 0} (make : C → W → After A W) (take_back : W → After B W) (obs : W → O) (Leads : List O → W → Type 0) (start : W) : Type 0 where
   pub at_start : Leads [] start
   -- a call made puts what was there in front; a call not made, or a take-back not made, changes nothing that is compared
-  pub on-made : (c : C) (os : List O) (w w' : W) (a : A) → Leads os w → make c w ≡ made a w' → Leads (obs w ∷ os) w'
-  pub on-unmade : (c : C) (os : List O) (w w' : W) (n : ℕ) → Leads os w → make c w ≡ unmade n w' → (obs w' ≡ obs w) × Leads os w'
-  pub on-no_back : (os : List O) (w w' : W) (n : ℕ) → Leads os w → take_back w ≡ unmade n w' → (obs w' ≡ obs w) × Leads os w'
+  pub on_made : (c : C) (os : List O) (w w' : W) (a : A) → Leads os w → make c w ≡ made a w' → Leads (obs w ∷ os) w'
+  pub on_unmade : (c : C) (os : List O) (w w' : W) (n : ℕ) → Leads os w → make c w ≡ unmade n w' → (obs w' ≡ obs w) × Leads os w'
+  pub on_no_back : (os : List O) (w w' : W) (n : ℕ) → Leads os w → take_back w ≡ unmade n w' → (obs w' ≡ obs w) × Leads os w'
   -- a take-back leads to the nearest; where there is none it is not made
   pub on_back : (o : O) (os : List O) (w w' : W) (b : B) → Leads (o ∷ os) w → take_back w ≡ made b w' → (obs w' ≡ o) × Leads os w'
   pub on_none : (w w' : W) (b : B) → Leads [] w → take_back w ≡ made b w' → ⊥
@@ -82,7 +82,7 @@ module _ {A B C O W : Type 0} (make : C → W → After A W) (take_back : W → 
       let h = came_alone k in
       let u = h.0 in
       let r = g u h.3 h.2 in
-      (r.0, more h.1 r.1, r.2, subst (λ x. Leads (x ∷ os) r.0) h.2 (laws.on-made c os u r.0 a h.3 r.1))
+      (r.0, more h.1 r.1, r.2, subst (λ x. Leads (x ∷ os) r.0) h.2 (laws.on_made c os u r.0 a h.3 r.1))
 
   record Inv (s : Walk C A W) : Type 0 where
     os : List O
@@ -92,11 +92,11 @@ module _ {A B C O W : Type 0} (make : C → W → After A W) (take_back : W → 
   called_inv : (c : C) (s : Walk C A W) → Inv s → (o : After A W) → make c s.here ≡ o → Inv (called c s.standing o)
   called_inv c s h (made a w) e = record {
     os = obs s.here ∷ h.os;
-    leads = laws.on-made c h.os s.here w a h.leads e;
+    leads = laws.on_made c h.os s.here w a h.leads e;
     came = next h.came (λ u l p. laws.determined c h.os u s.here w a l h.leads p e);
   }
   called_inv c s h (unmade n w) e =
-      let r = laws.on-unmade c h.os s.here w n h.leads e in
+      let r = laws.on_unmade c h.os s.here w n h.leads e in
       record { os = h.os; leads = r.1; came = subst (Came s.standing h.os) (sym r.0) h.came }
 
   taken_inv : (s : Walk C A W) → Inv s → (o : After B W) → take_back s.here ≡ o → Inv (taken s.standing o)
@@ -108,7 +108,7 @@ module _ {A B C O W : Type 0} (make : C → W → After A W) (take_back : W → 
           let r = laws.on_back o₁ os₁ s.here w b l e in
           record { os = os₁; leads = r.1; came = subst (Came _ os₁) (sym r.0) k }
   taken_inv s h (unmade n w) e =
-      let r = laws.on-no_back h.os s.here w n h.leads e in
+      let r = laws.on_no_back h.os s.here w n h.leads e in
       record { os = h.os; leads = r.1; came = subst (Came s.standing h.os) (sym r.0) h.came }
 
   walk_inv : (row : List (Entry C)) → Inv (walk make take_back start row)

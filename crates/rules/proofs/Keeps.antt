@@ -74,7 +74,7 @@ alike-put f v m s h =
 -- ---- what is asked of a machine: a sound device, a window of bytes, and places that a record's 4 bytes can hold
 
 pub record Good (base : ℕ) (m : Machine) : Type 0 where
-  pub sound-dev : Sound m.dev
+  pub sound_dev : Sound m.dev
   pub mem_bytes : Bytes m.mem
   pub mem_below : base + length m.mem ≤ 2 ^ 32
   pub table_below : length m.dev.table ≤ 2 ^ 32
@@ -82,16 +82,16 @@ pub record Good (base : ℕ) (m : Machine) : Type 0 where
 pub good_store : (base : ℕ) (sp : Space) (a n v : ℕ) (m : Machine) → Good base m → Good base (stored base sp a n v m)
 unfolding stored with_bytes_of bytes_of own_of parts_of
 good_store base window a n v m g = record {
-  sound-dev = g.sound-dev;
+  sound_dev = g.sound_dev;
   mem_bytes = bytes-splice m.mem (index_of base window a) (bytes n v) g.mem_bytes (bytes-bytes n v);
   mem_below = rw (length_splice m.mem (index_of base window a) (bytes n v)) g.mem_below;
   table_below = g.table_below;
 }
 good_store base table a n v m g = record {
-  sound-dev = record {
-    three = g.sound-dev.three;
-    fitting = g.sound-dev.fitting;
-    table-bytes = bytes-splice m.dev.table (index_of base table a) (bytes n v) g.sound-dev.table-bytes (bytes-bytes n v);
+  sound_dev = record {
+    three = g.sound_dev.three;
+    fitting = g.sound_dev.fitting;
+    table_bytes = bytes-splice m.dev.table (index_of base table a) (bytes n v) g.sound_dev.table_bytes (bytes-bytes n v);
   };
   mem_bytes = g.mem_bytes;
   mem_below = g.mem_below;
@@ -103,8 +103,8 @@ unfolding with_device
 good_put base f v m g =
     let x = v % 2 ^ bits_in m.dev.chip f in
     record {
-      sound-dev = put-sound f x m.dev g.sound-dev (mod-lt v (pow_pos (bits_in m.dev.chip f)));
+      sound_dev = put-sound f x m.dev g.sound_dev (mod-lt v (pow_pos (bits_in m.dev.chip f)));
       mem_bytes = g.mem_bytes;
       mem_below = g.mem_below;
-      table_below = rw (put_law f x m.dev g.sound-dev.three).table g.table_below;
+      table_below = rw (put_law f x m.dev g.sound_dev.three).table g.table_below;
     }

@@ -17,7 +17,7 @@ use Rattle.rules.specs.Run.{paced, chip_turn}
 use Rattle.rules.specs.Words.{gain, lose, without, linked, link_of, count_of, recount}
 use Rattle.rules.specs.declared.Tcd.{Tcd}
 use Rattle.rules.proofs.BytesLaws.{part_lt}
-use Rattle.rules.proofs.Each.{Rights, Each, Properly, each_keeps, at_done, ◌>>=◌, ◌>>◌, each_ask, each_put, each_change, each_when}
+use Rattle.rules.proofs.Each.{Rights, Each, Properly, each_keeps, at_done, ◌>>◌, each_ask, each_put, each_change, each_when}
 use Rattle.rules.proofs.Proper.{Proper}
 use Rattle.rules.proofs.FieldLaws.{put_law}
 use Rattle.rules.proofs.Leads.{Leads, leads_bind, leads_then, leads_both, leads_done, leads_cond, leads_end, proper_kept}
@@ -92,9 +92,9 @@ module _ (ch c : ℕ) (own : c ≡ ch → ⊥) where
           link_spares (linked (raw / 2 ^ 9 * 2 ^ 9 + n)) (link_of (raw / 2 ^ 9 * 2 ^ 9 + n)) (λ g. f (g ∙ same))
       either false e k = let gone : linked n ≡ false = ne_eqb (n / 2 ^ 15 % 2) 1 (omega arith) in rw gone (unfold when in at_done)
 
-  on-window : OnWindow (sparing (32 * c + 0x1F) 1)
+  on_window : OnWindow (sparing (32 * c + 0x1F) 1)
   unfolding sparing
-  on-window = record { stage_any = λ n. tt; fetch_unit = λ a n l. tt; store_unit = λ a n l. tt }
+  on_window = record { stage_any = λ n. tt; fetch_unit = λ a n l. tt; store_unit = λ a n l. tt }
 
   own_spares : OnOwn (sparing (32 * c + 0x1F) 1) ch
   own_spares a n l b w = own_beside a n l b
@@ -116,7 +116,7 @@ module _ {base : ℕ} {lent : Lent} (ch c x : ℕ) (h : ch < 64) (own : c ≡ ch
       stands_kept (32 * c + 0x1F) 1 x
       (do
         each_change (MAJORS ch) _ tt
-        reload_each ch t (on-window ch c own) (own_spares ch c own) tt
+        reload_each ch t (on_window ch c own) (own_spares ch c own) tt
         flags_each ch t.csr tt tt
         link_spares ch c own _ _ (λ g. f (g ∙ ap (λ (n : ℕ). n / 2 ^ 8 % 2 ^ 6) e)))
       v q.1
@@ -139,14 +139,14 @@ unfolding pass sparing citer_at csr_at
 pass_spares ch c h u p a =
     let x = number (part u.now.dev.table (32 * c + 0x1F) 1) in
     let spare : Each (sparing (32 * c + 0x1F) 1) _ = descriptor_each ch tt in
-    let i : citer_at ch u.now.dev < 2 ^ 16 = part_lt 2 u.now.dev.table (32 * ch + 0x14) 2 p.sound.table-bytes (omega arith) in
-    let j : csr_at ch u.now.dev < 2 ^ 16 = part_lt 2 u.now.dev.table (32 * ch + 0x1E) 2 p.sound.table-bytes (omega arith) in
+    let i : citer_at ch u.now.dev < 2 ^ 16 = part_lt 2 u.now.dev.table (32 * ch + 0x14) 2 p.sound.table_bytes (omega arith) in
+    let j : csr_at ch u.now.dev < 2 ^ 16 = part_lt 2 u.now.dev.table (32 * ch + 0x1E) 2 p.sound.table_bytes (omega arith) in
     leads_bind (leads_both (descriptor_said ch h u) (stands_kept (32 * c + 0x1F) 1 x spare u (p, refl))) λ t v q.
     leads_bind (stands_kept (32 * c + 0x1F) 1 x (each_ask CR) v q.1) λ cr w o.
     leads_cond (eqb (count_of t.citer) 0)
     (λ _. leads_done o.1)
     (λ e.
-    leads_bind (stands_kept (32 * c + 0x1F) 1 x (transfer_each (on-window ch c a.not_own) t _) w o) λ sd y k.
+    leads_bind (stands_kept (32 * c + 0x1F) 1 x (transfer_each (on_window ch c a.not_own) t _) w o) λ sd y k.
     leads_then
     (minor_spares ch c x h a.not_own t _ _ y (omega (arith, q.0.0)) (omega (arith, q.0.1)) (omega (arith, eqb-false (count_of t.citer) 0 e))
     (λ g. a.not_minor (g ∙ ap link_of q.0.0)) (λ g. a.not_major (g ∙ ap (λ (n : ℕ). n / 2 ^ 8 % 2 ^ 6) q.0.1)) k) λ _ z b.

@@ -8,7 +8,6 @@ use lib.Count.{count_trailing_zeros}
 use lib.ListN.{replicate}
 use Rattle.rules.specs.State.{Device}
 use Rattle.rules.specs.declared.Heard.{Heard}
-use Rattle.rules.specs.declared.Heard.TheVariants as Heard
 use Rattle.rules.specs.declared.Tcd.{Tcd}
 use Rattle.rules.specs.Act.{Act, Done, Endless, Stage, Fetch, Store, Ask, Put, Look, acts, FORCED, MAJORS, PENDING, SOURCE}
 use Rattle.rules.specs.Scalars.{ERQ, KICK}

@@ -179,28 +179,28 @@ module _ {r : Rights} where
 
 -- the rights that a pass of channel ch needs: the window in units, its own descriptor, byte 0x1F of any channel, and four fields
 pub record OfPass (r : Rights) (ch : ℕ) : Type 0 where
-  pub on-window : OnWindow r
+  pub on_window : OnWindow r
   pub fetch_own : r.may_fetch table (32 * ch) 32
   pub store_own : OnOwn r ch
-  pub fetch-link : (to : ℕ) → to < 64 → r.may_fetch table (32 * to + 0x1F) 1
-  pub store-link : (to : ℕ) → to < 64 → r.may_store table (32 * to + 0x1F) 1
+  pub fetch_link : (to : ℕ) → to < 64 → r.may_fetch table (32 * to + 0x1F) 1
+  pub store_link : (to : ℕ) → to < 64 → r.may_store table (32 * to + 0x1F) 1
   pub put_int : r.may_put INT
   pub put_kick : r.may_put KICK
   pub put_erq : r.may_put ERQ
-  pub put-majors : r.may_put (MAJORS ch)
+  pub put_majors : r.may_put (MAJORS ch)
 
 module _ {r : Rights} (ch : ℕ) (p : OfPass r ch) where
   any_link : (on : Bool) (n : ℕ) → Each r (link_to ch on (n % 2 ^ 6))
   any_link on n =
       let l : n % 2 ^ 6 < 64 = mod-lt n (lit< tt) in
-      link_each ch on (n % 2 ^ 6) (p.fetch-link _ l) (λ _. p.store-link _ l) p.put_kick
+      link_each ch on (n % 2 ^ 6) (p.fetch_link _ l) (λ _. p.store_link _ l) p.put_kick
 
   major_each : Each r (major_end ch)
   unfolding major_end
   major_each = do
     t ← descriptor_each ch p.fetch_own
-    each_change _ _ p.put-majors
-    reload_each ch t p.on-window p.store_own p.put_kick
+    each_change _ _ p.put_majors
+    reload_each ch t p.on_window p.store_own p.put_kick
     flags_each ch t.csr p.put_int p.put_erq
     any_link (has t.csr MAJORELINK) (t.csr / 2 ^ 8)
 
@@ -212,7 +212,7 @@ module _ {r : Rights} (ch : ℕ) (p : OfPass r ch) where
     each_cond (eqb (count_of t.citer) 0)
         (λ _. at_done)
         (λ _. do
-          _ ← transfer_each p.on-window t _
+          _ ← transfer_each p.on_window t _
           do
             stores_each ch _ _ _ _ p.store_own
             each_when _ (λ _. each_change _ _ p.put_int)
@@ -469,7 +469,7 @@ module _ {base : ℕ} {lent : Lent} (ch : ℕ) (h : ch < 64) where
   pass-counts u p =
       let x = holds (MAJORS ch) u.now.dev in
       let c = citer_at ch u.now.dev in
-      let fits : c < 2 ^ 16 = part_lt 2 u.now.dev.table (32 * ch + 0x14) 2 p.sound.table-bytes (omega arith) in
+      let fits : c < 2 ^ 16 = part_lt 2 u.now.dev.table (32 * ch + 0x14) 2 p.sound.table_bytes (omega arith) in
       leads_bind (leads_both (descriptor_said u) (majors_kept ch x (descriptor_each ch tt) u (p, refl))) λ t v q.
       leads_bind (majors_kept ch x (each_ask CR) v q.1) λ cr w o.
       leads_cond (eqb (count_of t.citer) 0)

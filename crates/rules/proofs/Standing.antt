@@ -93,9 +93,9 @@ module _ {A C : Type 0} (call_of : C → Call A) (base : ℕ) where
       laws : Laws make (refuses_with n) told (λ os w. Unit {0}) start
       laws = record {
         at_start = tt;
-        on-made = λ c os w w' a l e. tt;
-        on-unmade = λ c os w w' k l e. (alike w' w (make_unmade base (call_of c) w k w' e), tt);
-        on-no_back = λ os w w' k l e. let p : w ≡ w' = cc in (ap told (sym p), tt);
+        on_made = λ c os w w' a l e. tt;
+        on_unmade = λ c os w w' k l e. (alike w' w (make_unmade base (call_of c) w k w' e), tt);
+        on_no_back = λ os w w' k l e. let p : w ≡ w' = cc in (ap told (sym p), tt);
         on_back = λ o os w w' b l e. let z : ◌≡◌ {A = ℕ} 0 1 = cc in absurd (omega arith);
         on_none = λ w w' b l e. let z : ◌≡◌ {A = ℕ} 0 1 = cc in omega arith;
         determined = λ c os u w w' a l k p e.
@@ -145,18 +145,18 @@ module _ {A C : Type 0} (call_of : C → Call A) (base : ℕ) where
     agree : (os : List Seen) (u w : World) → Leads os u → Leads os w → seen u ≡ seen w → Agree u w
     agree os u w h k p = record { seen_is = p; room_is = omega (arith, h.total_is, k.total_is, ap (λ (s : Seen). length s.used) p) }
 
-    on-no_back : (os : List Seen) (w w' : World) (n : ℕ) → Leads os w → take_back base w ≡ unmade n w' → (seen w' ≡ seen w) × Leads os w'
-    on-no_back [] w w' n h e = let p : w' ≡ w = cc (back_none w h) in (ap seen p, rw p h)
-    on-no_back (o ∷ os) w w' n h e = let r = (back_led o os w h).1 in let z : ◌≡◌ {A = ℕ} 0 1 = cc in absurd (omega arith)
+    on_no_back : (os : List Seen) (w w' : World) (n : ℕ) → Leads os w → take_back base w ≡ unmade n w' → (seen w' ≡ seen w) × Leads os w'
+    on_no_back [] w w' n h e = let p : w' ≡ w = cc (back_none w h) in (ap seen p, rw p h)
+    on_no_back (o ∷ os) w w' n h e = let r = (back_led o os w h).1 in let z : ◌≡◌ {A = ℕ} 0 1 = cc in absurd (omega arith)
 
     laws : Laws make (take_back base) seen Leads start
     unfolding Way
     laws = record {
       at_start = record { good_now = good; total_is = refl; way = empty };
-      on-made = λ c os w w' a h e.
+      on_made = λ c os w w' a h e.
           let t = make_made base (call_of c) w h.good_now (omega (arith, h.total_is)) a w' e in
           record { good_now = t.1; total_is = t.2 ∙ h.total_is; way = (t.0, h.good_now, h.way) };
-      on-unmade = λ c os w w' n h e.
+      on_unmade = λ c os w w' n h e.
           let k = make_unmade base (call_of c) w n w' e in (
             k.seen_is,
             record {
@@ -165,7 +165,7 @@ module _ {A C : Type 0} (call_of : C → Call A) (base : ℕ) where
               way = subst (Way os) (sym k.seen_is) h.way;
             },
           );
-      on-no_back = on-no_back;
+      on_no_back = on_no_back;
       on_back = λ o os w w' b h e.
           let r = back_led o os w h in
           let f = r.1 in

@@ -115,7 +115,7 @@ module _ (base : ℕ) (u : World) (entry : Good base u.now) where
             ∙ ap (λ y. u.used ++ y) (ap (λ y. lines_of h.log ++ y) (sym (append-nil (line_of r))) ∙ sym (lines_append h.log (r ∷ [])));
         undone =
             undo_append base h.log (r ∷ []) _
-            ∙ ap (undo base h.log) (store_back base sp a n x v.now u.now.dev h.good.mem_bytes h.good.sound-dev.table-bytes) ∙ h.undone;
+            ∙ ap (undo base h.log) (store_back base sp a n x v.now u.now.dev h.good.mem_bytes h.good.sound_dev.table_bytes) ∙ h.undone;
         all_sound = all_append base h.log (r ∷ []) u.now h.all_sound (old_sound, tt);
         alike = alike-store base sp a n x v.now h.alike;
         good = good_store base sp a n x v.now h.good;
@@ -124,7 +124,7 @@ module _ (base : ℕ) (u : World) (entry : Good base u.now) where
     where
       bytes-there : (sp : Space) → Bytes (bytes_of sp v.now)
       bytes-there window = unfold bytes_of in h.good.mem_bytes
-      bytes-there table = unfold bytes_of in h.good.sound-dev.table-bytes
+      bytes-there table = unfold bytes_of in h.good.sound_dev.table_bytes
 
       old_sound : sound_store base u.now sp n a (number (fetched base sp a n v.now)) ≡ true
       old_sound =
@@ -140,10 +140,10 @@ module _ (base : ℕ) (u : World) (entry : Good base u.now) where
         log = h.log;
         used_is = h.used_is;
         undone =
-            ap (λ t. undo base h.log (record { mem = v.now.mem; dev = with_table u.now.dev t })) (put_law f y v.now.dev h.good.sound-dev.three).table
+            ap (λ t. undo base h.log (record { mem = v.now.mem; dev = with_table u.now.dev t })) (put_law f y v.now.dev h.good.sound_dev.three).table
             ∙ h.undone;
         all_sound = h.all_sound;
-        alike = alike-put f y v.now h.good.sound-dev h.alike;
+        alike = alike-put f y v.now h.good.sound_dev h.alike;
         good = good_put base f x v.now h.good;
         total_is = h.total_is;
       }
@@ -193,8 +193,8 @@ module _ (base : ℕ) (u : World) (entry : Good base u.now) (small : total u ≤
       let g = h.log ++ f in
       let all : AllSound base u.now g =
       all_append base h.log f u.now h.all_sound
-      (all_changed base (field_bits u.now.dev.chip) (fields_of u.now.dev) (fields_of v.now.dev) 0 u.now (all_named u.now.dev.chip) (within u.now.dev entry.sound-dev)
-      (subst (λ c. Within (field_bits c) (fields_of v.now.dev)) h.alike.chip_is (within v.now.dev h.good.sound-dev))) in
+      (all_changed base (field_bits u.now.dev.chip) (fields_of u.now.dev) (fields_of v.now.dev) 0 u.now (all_named u.now.dev.chip) (within u.now.dev entry.sound_dev)
+      (subst (λ c. Within (field_bits c) (fields_of v.now.dev)) h.alike.chip_is (within v.now.dev h.good.sound_dev))) in
       let n : (length v.used - length u.used) / 16 ≡ length h.log =
       ap (λ x. (x - length u.used) / 16) (ap length h.used_is ∙ length-append u.used (lines_of h.log) ∙ ap (λ x. length u.used + x) (length_lines h.log))
       ∙ ap (λ x. x / 16) (omega arith) ∙ mul-div_cancel (length h.log) (lit< tt) in
@@ -209,7 +209,7 @@ module _ (base : ℕ) (u : World) (entry : Good base u.now) (small : total u ≤
           few = omega (arith, sum, ap length used, length-append u.used (group_bytes g), length_group g);
           undone =
               undo_append base h.log f v.now
-              ∙ ap (undo base h.log) (fields_back base u.now v.now entry.sound-dev h.good.sound-dev h.alike.ignore_is h.alike.chip_is)
+              ∙ ap (undo base h.log) (fields_back base u.now v.now entry.sound_dev h.good.sound_dev h.alike.ignore_is h.alike.chip_is)
               ∙ h.undone;
         },
         h.good,

@@ -147,7 +147,7 @@ sound d g =
           ),
         ),
       );
-      table-bytes = bytes_each d.table t.0.0 t.0.1.1;
+      table_bytes = bytes_each d.table t.0.0 t.0.1.1;
     }
   where
     zeros : (n : ℕ) → Within (replicate n 0) (replicate n 0)
@@ -156,4 +156,4 @@ sound d g =
 
 -- and so a machine of such a device and a window of bytes is good
 pub good : (base : ℕ) (mem : List ℕ) (d : HeldDevice) → Typed d → Bytes mem → base + length mem ≤ 2 ^ 32 → Good base (record { mem = mem; dev = view d })
-good base mem d t b h = record { sound-dev = sound d t; mem_bytes = b; mem_below = h; table_below = omega (arith, table-size d t) }
+good base mem d t b h = record { sound_dev = sound d t; mem_bytes = b; mem_below = h; table_below = omega (arith, table-size d t) }

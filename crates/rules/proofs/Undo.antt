@@ -112,4 +112,4 @@ module _ (base : ℕ) where
       (subst (λ x. Within (field_bits x) (fields_of m₀.dev)) (sym c) (within m₀.dev s)) (within m.dev t) t refl in
       ap₂ (λ l d. record { mem = l; dev = d }) r.mem
       (device-same e.dev (with_table m₀.dev m.dev.table) r.sound
-      (record { three = s.three; fitting = s.fitting; table-bytes = t.table-bytes }) r.fields r.table (r.ignore ∙ i) (r.chip ∙ c))
+      (record { three = s.three; fitting = s.fitting; table_bytes = t.table_bytes }) r.fields r.table (r.ignore ∙ i) (r.chip ∙ c))

@@ -16,13 +16,9 @@ use Rattle.rules.specs.declared.Acted.{Acted}
 use Rattle.rules.specs.State.{Controller, Device}
 use Rattle.rules.specs.View.{view}
 use Rattle.rules.specs.declared.Heard.{Heard}
-use Rattle.rules.specs.declared.Heard.TheVariants as Heard
 use Rattle.rules.specs.declared.Refusal.{Refusal}
-use Rattle.rules.specs.declared.Refusal.TheVariants as Refusal
 use Rattle.rules.specs.declared.Verdict.{Verdict}
-use Rattle.rules.specs.declared.Verdict.TheVariants as Verdict
 use Rattle.rules.specs.declared.Reading.{Reading}
-use Rattle.rules.specs.declared.Reading.TheVariants as Reading
 
 -- ---- the answers' numbers
 

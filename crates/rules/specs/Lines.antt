@@ -5,7 +5,6 @@ use Rattle.rules.specs.Act.{Act, done, ask, put, change, look, ◌>>=◌, ◌>>�
 use Rattle.rules.specs.Scalars.{INT, LEVEL}
 use Rattle.rules.specs.Words.{has, without}
 use Rattle.rules.specs.declared.Heard.{Heard}
-use Rattle.rules.specs.declared.Heard.TheVariants as Heard
 
 -- ---- DMA-owned lines
 

@@ -1,6 +1,6 @@
 -- What a record's head says of its value, by cases: the laws that the proofs of the heads cite. Assumes nothing.
 use mathlib.Core.Bool.{Bool, true, false, ◌&&◌, ◌||◌}
-use mathlib.Core.List.{List, []}
+use mathlib.Core.List.{List}
 use mathlib.Core.Option.{Option, none, some}
 use mathlib.Core.Path.{◌≡◌, refl, sym, ap, ◌∙◌}
 use Prim.Native.Nat.{ℕ, zero, suc, ◌+◌, ◌*◌, ◌^◌, ◌≤◌, ◌<◌}
@@ -16,7 +16,7 @@ use Rattle.rules.specs.Carry.{Machine, legal, there}
 use Rattle.rules.specs.Fields.{field_at, fits_some}
 use Rattle.rules.specs.TakeBack.{marked, kind, width, place, sound_store, sound_field, sound_kind}
 use Rattle.rules.proofs.BoolLaws.{or_either}
-use Rattle.rules.proofs.BytesLaws.{get_d_part, part-part}
+use Rattle.rules.proofs.BytesLaws.{get_or-part, part-part}
 use Rattle.device.specs.Spots.{bits_some, bits_at}
 use Rattle.device.proofs.Laws.{bits_most, fits_none}
 use Rattle.scan.specs.Heads.{Judges, sound_with}
@@ -27,7 +27,7 @@ use Rattle.scan.specs.declared.Head.TheVariants.{Wide, Damaged}
 
 pub mark_is : (j : List ℕ) (at : ℕ) → marked (part j at 16) ≡ eqb (get_or j at 0) 0x4A && eqb (get_or j (at + 1) 0) 0x52
 unfolding marked
-mark_is j at = rw (get_d_part j at 16 0 (omega arith), get_d_part j at 16 1 (omega arith), add-zero at)
+mark_is j at = rw (get_or-part j at 16 0 (omega arith), get_or-part j at 16 1 (omega arith), add-zero at)
 
 -- ---- stores
 
@@ -107,8 +107,8 @@ module _ (base : ℕ) (m : Machine) (j : List ℕ) (at : ℕ) {k w a : ℕ} (is-
     read : (v : ℕ) → sound_with base m (part j at 16) v ≡ sound_kind base m k w a v
     unfolding sound_with place
     read v =
-        let K : kind (part j at 16) ≡ k = get_d_part j at 16 2 (omega arith) ∙ sym (kind-is ∙ number_one j (at + 2)) in
-        let W : width (part j at 16) ≡ w = get_d_part j at 16 3 (omega arith) ∙ sym (width_is ∙ number_one j (at + 3)) in
+        let K : kind (part j at 16) ≡ k = get_or-part j at 16 2 (omega arith) ∙ sym (kind-is ∙ number_one j (at + 2)) in
+        let W : width (part j at 16) ≡ w = get_or-part j at 16 3 (omega arith) ∙ sym (width_is ∙ number_one j (at + 3)) in
         let A : place (part j at 16) ≡ a = ap number (part-part j at 16 4 4 (omega arith)) ∙ sym place_is in
         rw (is-marked, K, W, A)
 

@@ -1,5 +1,6 @@
 // The damage scan of a take-back: whether a group's records can all be undone. Document 01, "Damaged"; quoted words are its.
 #![tactic(auto)]
+
 ghost use Rattle.std.specs.Prelude.{◌≡◌, List, ℕ, ◌+◌, ◌*◌, ◌^◌, ◌≤◌, ltb, length, drop};
 ghost use Rattle.rules.specs.Act.{window as in_window, table as in_table};
 ghost use Rattle.rules.specs.Bytes.{part};

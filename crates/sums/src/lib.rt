@@ -1,6 +1,7 @@
 // What a descriptor's numbers mean for one minor loop: which addresses take the minor offset, how many bytes move, where an address ends.
 // Each contract is an equation with a definition of crate `rules` (specs/Minor.antt). Quoted words are document 01's.
 #![tactic(auto)]
+
 ghost use Rattle.std.specs.Prelude.{◌≡◌, ◌+◌, ◌^◌, ◌<◌, ◌≤◌, ◌&&◌, length};
 ghost use Rattle.rules.specs.Bytes.{part};
 ghost use Rattle.rules.specs.Minor.{tcd_of, source_offset, dest_offset, capped, minor_bytes, offset};

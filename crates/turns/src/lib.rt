@@ -1,6 +1,7 @@
 // Turns of the old mode: document 01, "Run, service, controllers". A turn, a run of turns, channel 35's pace, and the release of channels whose busy time is over.
 // Each contract says that the function does the steps of its tree (crate `rules`, specs/Run.antt), whatever the rest of the device is.
 #![tactic(auto)]
+
 ghost use Rattle.std.specs.Prelude.{◌≡◌, List, ℕ, ◌^◌, ◌≤◌, ◌<◌, min};
 ghost use Rattle.rules.specs.Run.{serve_line, serve, turn, turns, run_turns, over};
 ghost use Rattle.rules.specs.Words.{lowest};

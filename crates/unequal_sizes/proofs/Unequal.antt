@@ -13,16 +13,13 @@ use Rattle.rules.specs.Carry.{World, Out, go, Lent}
 use Rattle.rules.specs.Minor.{read_sizes, write_sizes, move_unequal}
 use Rattle.rules.specs.State.{Device}
 use Rattle.rules.specs.declared.Refusal.{Refusal}
-use Rattle.rules.specs.declared.Refusal.TheVariants as Refusal
 use Rattle.rules.proofs.Steps.{and_then, go_bind, stage_enough, stage_short}
 use Rattle.words.specs.Sizes.{a_size, Sized}
 use Rattle.equal_sizes.specs.Moves.{moved}
 use Rattle.equal_sizes.specs.declared.Moved.TheVariants as Moved
 use Rattle.unequal_sizes.specs.Stages.{read_to, wrote}
 use Rattle.unequal_sizes.specs.declared.Read.{Read}
-use Rattle.unequal_sizes.specs.declared.Read.TheVariants as Read
 use Rattle.unequal_sizes.specs.declared.Wrote.{Wrote}
-use Rattle.unequal_sizes.specs.declared.Wrote.TheVariants as Wrote
 
 -- ---- places
 

@@ -2,6 +2,7 @@
 // in the caller's staging. As in crate `equal_sizes` there is one loop for each unit size, with its width a constant.
 // Each contract says that the function does the steps of its tree (crate `rules`, specs/Minor.antt), whatever the rest of the world is.
 #![tactic(auto)]
+
 ghost use Rattle.std.specs.Prelude.{[], ◌≡◌, ◌+◌, ◌*◌, ◌/◌, ◌^◌, ◌≤◌, ◌<◌, length, take};
 ghost use Rattle.rules.specs.Minor.{read_unit, read_units, read_sizes, write_units, write_sizes, move_unequal};
 ghost use Rattle.act.specs.Lent.{◌⇒◌, by};

@@ -10,7 +10,6 @@ use Rattle.captures.specs.declared.Due.TheVariants as Due
 use Rattle.captures.specs.declared.Flaw.TheVariants as Flaw
 use Rattle.captures.specs.declared.Judged.TheVariants as Judged
 use Rattle.captures.specs.declared.Captured.{Captured}
-use Rattle.captures.specs.declared.Captured.TheVariants as Captured
 use Rattle.captures.specs.Capture.{reads, writes, captured, captures}
 use Rattle.walls.specs.Examples.{computed}
 use Rattle.walls.specs.Captures.{descriptor, file_of, moved, fetched, addresses, AcceptsAlways, AcceptsNever, AddressesAlone, IgnoresFetches, StopsLooking, capturing}

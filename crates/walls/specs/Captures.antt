@@ -4,7 +4,6 @@ use Rattle.rules.specs.Carry.{line}
 use Rattle.rules.specs.Minor.{tcd_bytes}
 use Rattle.captures.specs.declared.Judged.TheVariants as Judged
 use Rattle.captures.specs.declared.Captured.{Captured}
-use Rattle.captures.specs.declared.Captured.TheVariants as Captured
 use Rattle.captures.specs.Capture.{Access, reads, writes}
 
 -- from 80000000 to 80000004: sizes, byte count, count, csr; the next descriptor is at 90000000

@@ -1,6 +1,7 @@
 // The leaves of the engine: sizes, sums of addresses, big-endian words, counts with a link, masks of 64 bits, zeros.
 // Each contract is an equation with a definition of crate `rules` (specs/Words.antt, specs/Bytes.antt). Quoted words are document 01's.
 #![tactic(auto)]
+
 ghost use Rattle.std.specs.Prelude.{◌≡◌, ◌+◌, ◌-◌, ◌*◌, ◌^◌, ◌<◌, ◌≤◌, min, ◌++◌, reverse, length, take, drop, replicate};
 ghost use Rattle.rules.specs.Bytes.{bytes, number, part, splice};
 ghost use Rattle.rules.specs.Words.{has, gain, lose, without, lowest, size_of, wholes, signed, modulo_add, linked, count_of, link_of, recount};

@@ -1,5 +1,4 @@
 -- `act::end_of` meets its contract. Assumes nothing.
-use borrow.Author.Rules.{rules}
 use Rattle.act.proofs.end_of.Goals as goal
 
 pub returns-in-Refused : goal.returns-in-Refused

@@ -1,5 +1,4 @@
 -- `acting::begun` meets its contract. Assumes nothing.
-use borrow.Author.Rules.{rules}
 use Rattle.acting.proofs.begun.Goals as goal
 
 pub returns-in-On : goal.returns-in-On

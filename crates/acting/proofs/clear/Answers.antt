@@ -4,7 +4,6 @@ use mathlib.Core.List.{◌++◌, List, append-nil}
 use lib.ListN.{length, take, replicate}
 use lib.Seq.{drop-length}
 use mathlib.Core.Path.{◌∙◌, ap}
-use borrow.Author.Rules.{rules}
 use Rattle.acting.proofs.clear.Goals as goal
 
 pub returns : goal.returns

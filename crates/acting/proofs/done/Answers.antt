@@ -1,5 +1,4 @@
 -- `acting::done` meets its contract, case by case. Assumes nothing.
-use borrow.Author.Rules.{rules}
 use Rattle.acting.proofs.done.Goals as goal
 
 pub returns-in_default : goal.returns-in_default

@@ -1,8 +1,7 @@
 -- `acting::end_core` meets its contract. Assumes nothing.
-use Rattle.acting.proofs.Laws.{core_noted, told-made, told-cleared, stands_new, stands_old}
+use Rattle.acting.proofs.Laws.{core_noted, told_made, told-cleared, stands_new, stands_old}
 use Rattle.act.specs.Parts.{tabled}
 use Rattle.rules.specs.declared.Heard.TheVariants as Heard
-use borrow.Author.Rules.{rules}
 use Rattle.acting.proofs.end_core.Goals as goal
 
 pub returns-in_default : goal.returns-in_default
@@ -19,4 +18,4 @@ returns c x t base lent m w j₀ z p fits same since later left =
     let r = c.done-r.result in
     let noted = core_noted a.k a.s x t p a.used _ c.begun.ensures c.note_core-numbers.ensures (c.note_sources-sources.ensures x p same) c.note_end.ensures in
     stands_new r x (tabled x t) Heard.Nothing w z _ c.in-Accepted.is
-    (told-made a.k x (tabled x t) Heard.Nothing a.used w j₀ w _ _ fits since base lent m a.s _ later left noted r c.done-r.ensures z c.in-Accepted.is)
+    (told_made a.k x (tabled x t) Heard.Nothing a.used w j₀ w _ _ fits since base lent m a.s _ later left noted r c.done-r.ensures z c.in-Accepted.is)

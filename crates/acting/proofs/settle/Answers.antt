@@ -1,6 +1,5 @@
 -- `acting::settle` meets its contract, by what the step is. Assumes nothing.
 use Rattle.acting.proofs.Laws.{settled_on, settled_off}
-use borrow.Author.Rules.{rules}
 use Rattle.acting.proofs.settle.Goals as goal
 
 pub returns-in-Going : goal.returns-in-Going

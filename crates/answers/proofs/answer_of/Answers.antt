@@ -1,6 +1,5 @@
 -- `answers::answer_of` meets its contract. Assumes nothing.
 use mathlib.Core.Path.{refl}
-use borrow.Author.Rules.{rules}
 use Rattle.answers.proofs.answer_of.Goals as goal
 
 pub returns : goal.returns

@@ -1,6 +1,5 @@
 -- `answers::captured_answer` meets its contract. Assumes nothing.
 use Rattle.answers.specs.Answers.{captured_by}
-use borrow.Author.Rules.{rules}
 use Rattle.answers.proofs.captured_answer.Goals as goal
 
 pub returns-in-Refused : goal.returns-in-Refused

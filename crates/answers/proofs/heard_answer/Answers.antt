@@ -1,6 +1,5 @@
 -- `answers::heard_answer` meets its contract. Assumes nothing.
 use mathlib.Core.Path.{refl}
-use borrow.Author.Rules.{rules}
 use Rattle.answers.proofs.heard_answer.Goals as goal
 
 pub returns : goal.returns

@@ -1,6 +1,5 @@
 -- `answers::judged_answer` meets its contract. Assumes nothing.
 use Rattle.answers.specs.Answers.{judged_by}
-use borrow.Author.Rules.{rules}
 use Rattle.answers.proofs.judged_answer.Goals as goal
 
 pub returns-in-Allowed : goal.returns-in-Allowed

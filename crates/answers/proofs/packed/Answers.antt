@@ -1,6 +1,5 @@
 -- `answers::packed` meets its contract. Assumes nothing.
 use Rattle.answers.proofs.Laws.{packed_sum}
-use borrow.Author.Rules.{rules}
 use Rattle.answers.proofs.packed.Goals as goal
 
 pub returns : goal.returns

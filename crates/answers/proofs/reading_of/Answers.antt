@@ -1,6 +1,5 @@
 -- `answers::reading_of` meets its contract. Assumes nothing.
 use Rattle.answers.specs.Answers.{read_by}
-use borrow.Author.Rules.{rules}
 use Rattle.answers.proofs.reading_of.Goals as goal
 
 pub returns-in-Value : goal.returns-in-Value

@@ -1,7 +1,6 @@
 -- `asking::bad_window` meets its contract: the three tests in turn. Assumes nothing.
 use borrow.Author.Tests.{lt-ltb, le-ltb, eq-eqb, ne_eqb}
 use Rattle.rules.specs.Calls.{bad_window}
-use borrow.Author.Rules.{rules}
 use Rattle.asking.proofs.bad_window.Goals as goal
 
 pub returns-then-len-eq0 : goal.returns-then-len-eq0

@@ -1,8 +1,7 @@
 -- `back::is_end` meets its contract: the four tests in turn. Assumes nothing.
 use mathlib.Core.Path.{sym, ◌∙◌}
-use borrow.Author.Tests.{eq-eqb, ne_eqb, not-true, not-false}
+use borrow.Author.Tests.{eq-eqb, ne_eqb}
 use Rattle.back.proofs.FindLaws.{end_is}
-use borrow.Author.Rules.{rules}
 use Rattle.back.proofs.is_end.Goals as goal
 
 pub returns-then-not-is_marked : goal.returns-then-not-is_marked

@@ -1,6 +1,5 @@
 -- `back::is_field` meets its contract. Assumes nothing.
 use Rattle.back.proofs.UndoLaws.{kind_at}
-use borrow.Author.Rules.{rules}
 use Rattle.back.proofs.is_field.Goals as goal
 
 pub returns : goal.returns

@@ -1,9 +1,7 @@
 -- `back::last_group` meets its contract: no valid end, a group that is too long, one that is damaged, and one that is sound. Assumes nothing.
 use mathlib.Core.Path.{sym, ◌∙◌}
 use native.Mathlib.Omega.{arith}
-use borrow.Author.Tests.{not-true, not-false}
 use Rattle.back.proofs.FindLaws.{no_end, too_long, some_damaged, all_sound_lem}
-use borrow.Author.Rules.{rules}
 use Rattle.back.proofs.last_group.Goals as goal
 
 pub returns-then-not-is_end : goal.returns-then-not-is_end

@@ -4,7 +4,6 @@ use native.Mathlib.Omega.{arith}
 use lib.Seq.{length-take-le}
 use Rattle.rules.proofs.Typed.{table-size}
 use Rattle.back.proofs.CallLaws.{bad_window_lem, bad_journal_lem, used_fits, used-whole, nothing-stands, is_damaged, accepted, group_stands, refused_spares, accepted_spares}
-use borrow.Author.Rules.{rules}
 use Rattle.back.proofs.take_back.Goals as goal
 
 pub returns-then-bad_window : goal.returns-then-bad_window
@@ -31,12 +30,11 @@ last_group-requires c =
     omega (arith, used-whole _ _ fine, length-take-le a.used a.journal.now (used_fits _ _ fine))
 
 pub returns-in_default : goal.returns-in_default
-returns-in_default c =
-    (
-      is_damaged _ _ _ _ _ (sym c.bad_window.ensures ∙ c.if-bad_window.false) (sym c.bad_journal.ensures ∙ c.if-bad_journal.false) (table-size c.args.d c.well_formed.0)
-          c.last_group.ensures c.in_default.is c.refused-in_default.ensures,
-      refused_spares c.refused-in_default.ensures,
-    )
+returns-in_default c = (
+  is_damaged _ _ _ _ _ (sym c.bad_window.ensures ∙ c.if-bad_window.false) (sym c.bad_journal.ensures ∙ c.if-bad_journal.false) (table-size c.args.d c.well_formed.0)
+      c.last_group.ensures c.in_default.is c.refused-in_default.ensures,
+  refused_spares c.refused-in_default.ensures,
+)
 
 pub undo_group-e-requires : goal.undo_group-e-requires
 undo_group-e-requires c =
@@ -51,9 +49,8 @@ clear-requires c =
     (omega (arith, s.long, length-take-le a.used a.journal.now fits), omega (arith, fits))
 
 pub returns : goal.returns
-returns c =
-    (
-      accepted _ c.args.d _ _ _ (sym c.bad_window.ensures ∙ c.if-bad_window.false) (sym c.bad_journal.ensures ∙ c.if-bad_journal.false) (table-size c.args.d c.well_formed.0)
-          c.last_group.ensures c.in-Group.is c.undo_group-e.ensures c.clear.ensures c.accepted.ensures,
-      accepted_spares c.accepted.ensures,
-    )
+returns c = (
+  accepted _ c.args.d _ _ _ (sym c.bad_window.ensures ∙ c.if-bad_window.false) (sym c.bad_journal.ensures ∙ c.if-bad_journal.false) (table-size c.args.d c.well_formed.0)
+      c.last_group.ensures c.in-Group.is c.undo_group-e.ensures c.clear.ensures c.accepted.ensures,
+  accepted_spares c.accepted.ensures,
+)

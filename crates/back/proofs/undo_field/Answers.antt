@@ -1,6 +1,5 @@
 -- `back::undo_field` meets its contract. Assumes nothing.
 use Rattle.back.proofs.UndoLaws.{place_at_lem, value_at}
-use borrow.Author.Rules.{rules}
 use Rattle.back.proofs.undo_field.Goals as goal
 
 pub with_number-requires : goal.with_number-requires

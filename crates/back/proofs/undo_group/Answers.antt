@@ -3,19 +3,15 @@ use Rattle.rules.proofs.Typed.{table-size}
 use Rattle.journal.proofs.Back.{line_as_long}
 use Rattle.scan.proofs.Laws.{mode_scanning}
 use Rattle.back.proofs.UndoLaws.{undo-turn, still_sound, undo_none, field_held, field_so, store_so, store_undone, both_undone, mode_kept}
-use Rattle.back.specs.Standing.{machine, undo_field}
-use Rattle.rules.specs.TakeBack.{decode, decode_all}
+use Rattle.back.specs.Standing.{undo_field}
+use Rattle.rules.specs.TakeBack.{decode}
 use Rattle.rules.specs.Bytes.{part}
-use Rattle.rules.specs.Carry.{undo}
 use Rattle.rules.specs.State.{Device}
 use Rattle.rules.specs.View.{view}
-use Rattle.rules.specs.With.{with_table}
-use lib.ListN.{length, drop}
 use native.Mathlib.Omega.{arith}
 use native.Mathlib.Nat.{sub-zero}
 use mathlib.Core.Path.{◌≡◌, refl, sym, ap, ◌∙◌}
-use mathlib.Core.Logic.{⊎_elim}
-use Prim.Native.Nat.{◌+◌, ◌*◌, ◌-◌, ◌≤◌}
+use Prim.Native.Nat.{◌+◌, ◌*◌, ◌-◌}
 use Rattle.back.proofs.undo_group.Goals as goal
 use Rattle.back.proofs.undo_group.Goals.{then-is_field, else-is_field}
 
@@ -58,8 +54,7 @@ loop-done-preserved c =
     let undone : view c.if-is_field.e ≡ undo_field (decode (part c.args.stands.now (c.args.from + (c.args.count - at.done - 1) * 16) 16)) (view at.e) = elim c.if-is_field.branch [
       | then-is_field w ↦ field_so _ (view at.e) (sym field ∙ w.if-is_field.true) (ap view w.e-is ∙ w.undo_field-e.ensures)
       | else-is_field w ↦ store_so _ (view at.e) (sym field ∙ w.if-is_field.false) (ap view w.e-is)
-    ] in
-    (
+    ] in (
       omega arith,
       undo-turn _ _ _ _ (omega arith) _ (omega arith) _ (both_undone _ _ _ _ _ _ (view at.e) (store_undone _ _ _ _ _ inv.3 (still_sound _ _ _ _ (omega arith) _ _ at.window inv.2 c.requires.1 _ (omega arith)) one.ensures) undone) ∙ inv.1,
       omega (arith, one.auto.table),

@@ -1,19 +1,11 @@
 -- `back::undo_group` meets its contract. The invariant: undoing the records that are left, here and now, is undoing all of them at the start. Assumes nothing.
-use Rattle.rules.proofs.Typed.{table-size}
-use Rattle.journal.proofs.Back.{line_as_long}
-use Rattle.scan.proofs.Laws.{mode_scanning}
-use Rattle.back.proofs.UndoLaws.{undo-turn, still_sound, undo_none, field_held, field_so, store_so, store_undone, both_undone, mode_kept}
 use Rattle.back.specs.Standing.{machine}
 use Rattle.rules.specs.TakeBack.{decode_all}
 use Rattle.rules.specs.Carry.{undo}
-use Rattle.rules.specs.State.{Device}
 use Rattle.rules.specs.View.{view}
 use Rattle.rules.specs.With.{with_table}
 use lib.ListN.{length, drop}
-use native.Mathlib.Omega.{arith}
-use native.Mathlib.Nat.{sub-zero}
-use mathlib.Core.Path.{◌≡◌, refl, sym, ap, ◌∙◌}
-use mathlib.Core.Logic.{⊎_elim}
+use mathlib.Core.Path.{◌≡◌}
 use Prim.Native.Nat.{◌-◌, ◌≤◌}
 use Rattle.back.proofs.undo_group.Given as goal
 

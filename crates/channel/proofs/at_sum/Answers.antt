@@ -1,5 +1,4 @@
 -- `channel::at_sum` meets its contract. Assumes nothing.
-use borrow.Author.Rules.{rules}
 use Rattle.channel.proofs.at_sum.Goals as goal
 
 pub returns-in-Going : goal.returns-in-Going

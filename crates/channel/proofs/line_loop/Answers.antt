@@ -1,13 +1,9 @@
 -- `channel::line_loop` meets its contract. Assumes nothing.
-use mathlib.Core.Path.{◌≡◌, refl, sym, ◌∙◌, ap}
+use mathlib.Core.Path.{refl, sym, ◌∙◌, ap}
 use Rattle.channel.proofs.Passing.{line_idle, line-off, line-done, line-over, line_again, line_out, broken_small}
-use Rattle.rules.specs.Run.{line_loop, line_passes}
+use Rattle.rules.specs.Run.{line_passes}
 use borrow.Author.Rules.{rules}
-use Prim.Native.Nat.{◌≤◌, ◌^◌}
-use lib.ListN.{length}
-use Rattle.rules.specs.State.{Device}
-use Rattle.rules.specs.Carry.{go, lending}
-use Rattle.act.specs.Worlds.{world}
+use Rattle.rules.specs.Carry.{lending}
 use Rattle.channel.proofs.line_loop.Goals as goal
 
 pub loop-left-init : goal.loop-left-init

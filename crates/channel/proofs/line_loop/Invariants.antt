@@ -1,8 +1,6 @@
 -- `channel::line_loop` meets its contract. Assumes nothing.
-use mathlib.Core.Path.{◌≡◌, refl, sym, ◌∙◌, ap}
-use Rattle.channel.proofs.Passing.{line_idle, line-off, line-done, line-over, line_again, line_out, broken_small}
+use mathlib.Core.Path.{◌≡◌}
 use Rattle.rules.specs.Run.{line_loop, line_passes}
-use borrow.Author.Rules.{rules}
 use Prim.Native.Nat.{◌≤◌, ◌^◌}
 use lib.ListN.{length}
 use Rattle.rules.specs.State.{Device}

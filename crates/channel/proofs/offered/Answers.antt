@@ -1,7 +1,5 @@
 -- `channel::offered` meets its contract. Assumes nothing.
-use borrow.Author.Tests.{not-true, not-false}
 use Rattle.channel.proofs.Reading.{offered-off, offered-standing, offered-pending}
-use borrow.Author.Rules.{rules}
 use Rattle.channel.proofs.offered.Goals as goal
 
 pub returns-then-not-has_bit : goal.returns-then-not-has_bit

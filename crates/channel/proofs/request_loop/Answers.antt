@@ -1,14 +1,9 @@
 -- `channel::request_loop` meets its contract. Assumes nothing.
-use borrow.Author.Tests.{not-true, not-false}
 use Rattle.channel.proofs.Passing.{request_stop, request_idle, request_off, request_again, request_out}
-use Rattle.rules.specs.With.{with_pending}
-use Rattle.rules.specs.Run.{request_loop, request_passes}
+use Rattle.rules.specs.Run.{request_passes}
 use borrow.Author.Rules.{rules}
-use lib.ListN.{length}
-use mathlib.Core.Path.{◌≡◌, refl, ap}
-use Rattle.rules.specs.State.{Device}
-use Rattle.rules.specs.Carry.{go, lending}
-use Rattle.act.specs.Worlds.{world}
+use mathlib.Core.Path.{refl, ap}
+use Rattle.rules.specs.Carry.{lending}
 use Rattle.channel.proofs.request_loop.Goals as goal
 
 pub loop-left-init : goal.loop-left-init

@@ -1,5 +1,4 @@
 -- `channel::spend` meets its contract. Assumes nothing.
-use borrow.Author.Rules.{rules}
 use Rattle.channel.proofs.spend.Goals as goal
 
 pub returns : goal.returns

@@ -1,12 +1,9 @@
 -- `channel::start_loop` meets its contract. Assumes nothing.
 use Rattle.channel.proofs.Passing.{start_idle, start_off, start_stop, start_again, start_out}
-use Rattle.rules.specs.Run.{start_loop, start_passes}
+use Rattle.rules.specs.Run.{start_passes}
 use borrow.Author.Rules.{rules}
-use lib.ListN.{length}
-use mathlib.Core.Path.{◌≡◌, refl, ap}
-use Rattle.rules.specs.State.{Device}
-use Rattle.rules.specs.Carry.{go, lending}
-use Rattle.act.specs.Worlds.{world}
+use mathlib.Core.Path.{refl, ap}
+use Rattle.rules.specs.Carry.{lending}
 use Rattle.channel.proofs.start_loop.Goals as goal
 
 pub loop-left-init : goal.loop-left-init

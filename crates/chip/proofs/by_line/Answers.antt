@@ -1,6 +1,5 @@
 -- `chip::by_line` meets its contract. Assumes nothing.
 use Rattle.chip.proofs.Turning.{line_went, line_not, line-off}
-use borrow.Author.Rules.{rules}
 use Rattle.chip.proofs.by_line.Goals as goal
 
 pub returns-in-Yes : goal.returns-in-Yes

@@ -1,6 +1,5 @@
 -- `chip::by_pass` meets its contract. Assumes nothing.
 use Rattle.chip.proofs.Turning.{pass_not, pass_went, pass-off}
-use borrow.Author.Rules.{rules}
 use Rattle.chip.proofs.by_pass.Goals as goal
 
 pub returns-in_default : goal.returns-in_default

@@ -1,14 +1,9 @@
 -- `chip::choose` meets its contract. The loop's invariant: the choice among the channels left, from the best so far, is the whole. The measure is the
 -- mask that is left. Assumes nothing.
-use mathlib.Core.Bool.{true}
-use mathlib.Core.Logic.{◌⊎◌, inl, inr, ⊎_elim}
-use mathlib.Core.Path.{◌≡◌, refl}
-use Prim.Native.Nat.{◌^◌, ◌<◌}
+use mathlib.Core.Logic.{inl, inr, ⊎_elim}
+use mathlib.Core.Path.{refl}
 use native.Mathlib.Omega.{arith}
-use borrow.Author.Rules.{rules}
-use Rattle.rules.specs.View.{view_priorities}
-use Rattle.chip.specs.Chosen.{chosen}
-use Rattle.chip.proofs.Choosing.{Walks, took, kept, fewer, ended}
+use Rattle.chip.proofs.Choosing.{took, kept, fewer, ended}
 use Rattle.chip.proofs.choose.Goals as goal
 
 pub loop-left-init : goal.loop-left-init

@@ -1,13 +1,11 @@
 -- `chip::choose` meets its contract. The loop's invariant: the choice among the channels left, from the best so far, is the whole. The measure is the
 use mathlib.Core.Bool.{true}
-use mathlib.Core.Logic.{◌⊎◌, inl, inr, ⊎_elim}
-use mathlib.Core.Path.{◌≡◌, refl}
+use mathlib.Core.Logic.{◌⊎◌}
+use mathlib.Core.Path.{◌≡◌}
 use Prim.Native.Nat.{◌^◌, ◌<◌}
-use native.Mathlib.Omega.{arith}
-use borrow.Author.Rules.{rules}
 use Rattle.rules.specs.View.{view_priorities}
 use Rattle.chip.specs.Chosen.{chosen}
-use Rattle.chip.proofs.Choosing.{Walks, took, kept, fewer, ended}
+use Rattle.chip.proofs.Choosing.{Walks}
 use Rattle.chip.proofs.choose.Given as goal
 
 abbrev pub invariant-loop-left : goal.invariant-loop-left

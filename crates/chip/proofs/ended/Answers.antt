@@ -1,7 +1,6 @@
 -- `chip::ended` meets its contract. Assumes nothing.
 use mathlib.Core.Path.{sym, ap}
 use Rattle.chip.specs.Turned.{ended_in}
-use borrow.Author.Rules.{rules}
 use Rattle.chip.proofs.ended.Goals as goal
 
 pub returns-in-Yes : goal.returns-in-Yes

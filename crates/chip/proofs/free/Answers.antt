@@ -1,6 +1,5 @@
 -- `chip::free` meets its contract. Assumes nothing.
 use Rattle.chip.proofs.Seeing.{not_past}
-use borrow.Author.Rules.{rules}
 use Rattle.chip.proofs.free.Goals as goal
 
 pub returns : goal.returns

@@ -1,9 +1,7 @@
 -- `chip::look` meets its contract. The loop's invariant: the channels below have been looked at. Assumes nothing.
-use mathlib.Core.Path.{◌≡◌, refl, ◌∙◌}
+use mathlib.Core.Path.{◌≡◌}
 use Prim.Native.Nat.{◌-◌, ◌≤◌}
-use borrow.Author.Rules.{rules}
 use Rattle.chip.specs.Seen.{SeesBelow}
-use Rattle.chip.proofs.Seeing.{sees_none, sees_more, sees_all}
 use Rattle.chip.proofs.look.Given as goal
 
 abbrev pub invariant-loop-ch : goal.invariant-loop-ch

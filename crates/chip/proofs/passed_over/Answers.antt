@@ -1,5 +1,4 @@
 -- `chip::passed_over` meets its contract. Assumes nothing.
-use borrow.Author.Rules.{rules}
 use Rattle.chip.proofs.passed_over.Goals as goal
 
 pub returns-else-went : goal.returns-else-went

@@ -3,7 +3,6 @@ use mathlib.Core.Path.{ap}
 use Prim.Native.Nat.{ℕ}
 use lib.Bits.{bit_and, bit_or}
 use Rattle.chip.specs.Seen.{ready_in}
-use borrow.Author.Rules.{rules}
 use Rattle.chip.proofs.ready.Goals as goal
 
 pub returns : goal.returns

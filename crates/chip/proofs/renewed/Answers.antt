@@ -1,7 +1,6 @@
 -- `chip::renewed` meets its contract. Assumes nothing.
 use mathlib.Core.Path.{refl}
 use Rattle.chip.proofs.Seeing.{renews}
-use borrow.Author.Rules.{rules}
 use Rattle.chip.proofs.renewed.Goals as goal
 
 pub returns : goal.returns

@@ -1,17 +1,11 @@
 -- `chip::run_chip` meets its contract. The loop's invariant: what is left to do from here is the whole, and what is kept is what is there.
 -- Assumes nothing.
-use mathlib.Core.Path.{◌≡◌, refl, ap}
+use mathlib.Core.Path.{refl, ap}
 use native.Mathlib.Omega.{arith}
 use borrow.Author.Rules.{rules}
-use lib.ListN.{length}
-use mathlib.Core.Bool.{true}
-use Rattle.rules.specs.Carry.{go, lending}
-use Rattle.rules.specs.Run.{chip_turns, run_turns}
-use Rattle.rules.specs.State.{Device}
-use Rattle.rules.specs.View.{view_priorities}
-use Rattle.rules.proofs.Proper.{Proper}
-use Rattle.turns.specs.Turns.{turning}
-use Rattle.chip.proofs.Turning.{Stands, chips_out, chips_stop, chips_refused, chips_again}
+use Rattle.rules.specs.Carry.{lending}
+use Rattle.rules.specs.Run.{run_turns}
+use Rattle.chip.proofs.Turning.{chips_out, chips_stop, chips_refused, chips_again}
 use Rattle.chip.proofs.run_chip.Goals as goal
 
 pub loop-left-init : goal.loop-left-init

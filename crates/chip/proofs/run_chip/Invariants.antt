@@ -1,7 +1,5 @@
 -- `chip::run_chip` meets its contract. The loop's invariant: what is left to do from here is the whole, and what is kept is what is there.
-use mathlib.Core.Path.{◌≡◌, refl, ap}
-use native.Mathlib.Omega.{arith}
-use borrow.Author.Rules.{rules}
+use mathlib.Core.Path.{◌≡◌}
 use lib.ListN.{length}
 use mathlib.Core.Bool.{true}
 use Rattle.rules.specs.Carry.{go, lending}
@@ -10,7 +8,7 @@ use Rattle.rules.specs.State.{Device}
 use Rattle.rules.specs.View.{view_priorities}
 use Rattle.rules.proofs.Proper.{Proper}
 use Rattle.turns.specs.Turns.{turning}
-use Rattle.chip.proofs.Turning.{Stands, chips_out, chips_stop, chips_refused, chips_again}
+use Rattle.chip.proofs.Turning.{Stands}
 use Rattle.chip.proofs.run_chip.Given as goal
 
 abbrev pub invariant-loop-left : goal.invariant-loop-left

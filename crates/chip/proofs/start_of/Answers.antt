@@ -4,7 +4,6 @@ use Prim.Native.Nat.{ℕ}
 use Rattle.rules.specs.Minor.{START}
 use Rattle.rules.specs.Words.{has}
 use Rattle.chip.specs.Seen.{start_in}
-use borrow.Author.Rules.{rules}
 use Rattle.chip.proofs.start_of.Goals as goal
 
 pub returns : goal.returns

@@ -1,6 +1,5 @@
 -- `chip::with_bit` meets its contract. Assumes nothing.
 use Rattle.chip.proofs.Seeing.{marked_in, marked_out}
-use borrow.Author.Rules.{rules}
 use Rattle.chip.proofs.with_bit.Goals as goal
 
 pub returns-then-on : goal.returns-then-on

@@ -2,7 +2,6 @@
 use mathlib.Core.Bool.{Bool}
 use mathlib.Core.Path.{subst}
 use Rattle.chip.specs.Seen.{Marks}
-use borrow.Author.Rules.{rules}
 use Rattle.chip.proofs.with_start.Goals as goal
 
 pub returns : goal.returns

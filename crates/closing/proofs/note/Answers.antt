@@ -1,7 +1,6 @@
 -- `closing::note` meets its contract: by whether it fits. Assumes nothing.
 use Prim.Native.Nat.{◌+◌, ◌≤◌}
 use native.Mathlib.Omega.{arith}
-use borrow.Author.Rules.{rules}
 use lib.ListN.{length}
 use Rattle.journal.proofs.Laws.{room, no_room}
 use Rattle.closing.proofs.Laws.{add-no, add_yes}

@@ -1,12 +1,6 @@
 -- `closing::note_bytes` meets its contract: what is left to note from here is what was to note from the start. Assumes nothing.
-use mathlib.Core.Path.{◌≡◌, refl, ◌∙◌}
-use Prim.Native.Nat.{◌+◌, ◌-◌, ◌≤◌}
+use mathlib.Core.Path.{refl, ◌∙◌}
 use native.Mathlib.Omega.{arith}
-use borrow.Author.Rules.{rules}
-use lib.ListN.{length, drop}
-use Rattle.rules.specs.Carry.{changed}
-use Rattle.closing.specs.declared.Noted.TheVariants.{At}
-use Rattle.closing.specs.Closes.{noting, add_all}
 use Rattle.closing.proofs.Laws.{stays_full, told_at, turns_start, block, block_full, to_end}
 use Rattle.closing.proofs.note_bytes.Goals as goal
 

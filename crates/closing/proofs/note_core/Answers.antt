@@ -1,6 +1,5 @@
 -- `closing::note_core` meets its contract: the scalars, then each controller. Assumes nothing.
 use Rattle.closing.proofs.Parts.{core_done}
-use borrow.Author.Rules.{rules}
 use Rattle.closing.proofs.note_core.Goals as goal
 
 pub returns : goal.returns

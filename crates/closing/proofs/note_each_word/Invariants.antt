@@ -1,13 +1,10 @@
 -- `closing::note_each_word` meets its contract: what is left to note from here is what was to note from the start. Assumes nothing.
-use mathlib.Core.Path.{◌≡◌, refl, ◌∙◌}
+use mathlib.Core.Path.{◌≡◌}
 use Prim.Native.Nat.{◌+◌, ◌-◌, ◌≤◌}
-use native.Mathlib.Omega.{arith}
-use borrow.Author.Rules.{rules}
 use lib.ListN.{length, drop}
 use Rattle.rules.specs.Carry.{changed}
 use Rattle.closing.specs.declared.Noted.TheVariants.{At}
 use Rattle.closing.specs.Closes.{noting, add_all}
-use Rattle.closing.proofs.Laws.{turns_start, turn, turn_full, turns-done}
 use Rattle.closing.proofs.note_each_word.Given as goal
 
 abbrev pub invariant-loop-i : goal.invariant-loop-i

@@ -1,7 +1,6 @@
 -- `closing::note_end` meets its contract: the count is that of the bytes since the group began, over 16. Assumes nothing.
 use Rattle.closing.proofs.Laws.{end_full, end_at_lem}
 use native.Mathlib.Omega.{arith}
-use borrow.Author.Rules.{rules}
 use Rattle.closing.proofs.note_end.Goals as goal
 
 pub returns-in_default : goal.returns-in_default

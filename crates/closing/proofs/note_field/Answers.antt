@@ -1,5 +1,4 @@
 -- `closing::note_field` meets its contract: once a record did not fit, nothing more happens. Assumes nothing.
-use borrow.Author.Rules.{rules}
 use Rattle.closing.proofs.Laws.{stays_full, told_at}
 use Rattle.closing.proofs.note_field.Goals as goal
 

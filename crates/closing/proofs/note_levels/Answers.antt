@@ -1,6 +1,5 @@
 -- `closing::note_levels` meets its contract: controller after controller. Assumes nothing.
 use Rattle.closing.proofs.Parts.{levels-done}
-use borrow.Author.Rules.{rules}
 use Rattle.closing.proofs.note_levels.Goals as goal
 
 pub returns : goal.returns

@@ -1,5 +1,4 @@
 -- `closing::note_one` meets its contract: by whether the field differs. Assumes nothing.
-use borrow.Author.Rules.{rules}
 use Rattle.closing.proofs.Laws.{field_same, field_other}
 use Rattle.closing.proofs.note_one.Goals as goal
 

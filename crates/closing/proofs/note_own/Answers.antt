@@ -1,6 +1,5 @@
 -- `closing::note_own` meets its contract: field after field. Assumes nothing.
 use native.Mathlib.Omega.{arith}
-use borrow.Author.Rules.{rules}
 use Rattle.closing.proofs.Laws.{field_on}
 use Rattle.closing.proofs.note_own.Goals as goal
 

@@ -4,4 +4,4 @@ use Rattle.closing.proofs.Laws.{none_changed}
 use Rattle.closing.proofs.note_pending.Goals as goal
 
 pub returns-then-same_word : goal.returns-then-same_word
-returns-then-same_word c = record { long = search rules; long-now = search rules; noted = none_changed _ _ _ _ (c.same_word.ensures c.if-same_word.true) }
+returns-then-same_word c = record { long = search rules; long_now = search rules; noted = none_changed _ _ _ _ (c.same_word.ensures c.if-same_word.true) }

@@ -2,7 +2,6 @@
 use mathlib.Core.Path.{refl, sym, ◌∙◌}
 use native.Mathlib.Omega.{arith}
 use lib.ListN.{length-set}
-use borrow.Author.Rules.{rules}
 use Rattle.closing.proofs.Laws.{one_changed}
 use Rattle.closing.proofs.note_priority.Goals as goal
 
@@ -11,7 +10,7 @@ returns c order long is =
     let a = c.args in
     record {
       long = long;
-      long-now = length-set order a.channel a.after ∙ long;
+      long_now = length-set order a.channel a.after ∙ long;
       noted =
           one_changed 768 _ order a.channel _ _ a.after _ (omega (arith, long, c.requires))
           (c.wide8.ensures ∙ sym is) c.wide8-2.ensures refl c.note_field.ensures;

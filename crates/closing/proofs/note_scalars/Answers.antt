@@ -1,7 +1,6 @@
 -- `closing::note_scalars` meets its contract: the numbers as a list, before and after. Assumes nothing.
 use mathlib.Core.Path.{sym, ap, ◌∙◌}
 use native.Mathlib.Omega.{arith}
-use borrow.Author.Rules.{rules}
 use lib.ListN.{length}
 use Rattle.closing.proofs.note_scalars.Goals as goal
 

@@ -1,7 +1,5 @@
 -- `closing::note_sources` meets its contract. Assumes nothing.
 use Rattle.closing.proofs.Parts.{same-part}
-use borrow.Author.Tests.{not-true}
-use borrow.Author.Rules.{rules}
 use Rattle.closing.proofs.note_sources.Goals as goal
 
 pub returns-then-not-touched : goal.returns-then-not-touched

@@ -1,5 +1,4 @@
 -- `closing::note_wide_block` meets its contract: elements that are the same leave no record. Assumes nothing.
-use borrow.Author.Rules.{rules}
 use Rattle.closing.proofs.Laws.{none_changed}
 use Rattle.closing.proofs.note_wide_block.Goals as goal
 

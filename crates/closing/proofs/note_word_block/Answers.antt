@@ -1,5 +1,4 @@
 -- `closing::note_word_block` meets its contract: elements that are the same leave no record. Assumes nothing.
-use borrow.Author.Rules.{rules}
 use Rattle.closing.proofs.Laws.{none_changed}
 use Rattle.closing.proofs.note_word_block.Goals as goal
 

@@ -1,10 +1,7 @@
 -- `closing::same_wide` meets its contract: while nothing is found to differ, the elements passed are the same. Assumes nothing.
-use mathlib.Core.Path.{◌≡◌, refl}
+use mathlib.Core.Path.{◌≡◌}
 use Prim.Native.Nat.{◌-◌, ◌≤◌}
-use native.Mathlib.Omega.{arith}
-use borrow.Author.Rules.{rules}
 use lib.ListN.{length, take}
-use Rattle.closing.proofs.Laws.{same_more, same_all}
 use Rattle.closing.proofs.same_wide.Given as goal
 
 abbrev pub invariant-loop-i : goal.invariant-loop-i

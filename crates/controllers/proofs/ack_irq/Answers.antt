@@ -1,7 +1,6 @@
 -- `controllers::ack_irq` meets its contract: the act of the rules, with what the callees ensure of each controller. Assumes nothing.
 use Rattle.controllers.proofs.DeviceLaws.{acknowledge-held}
 use Rattle.act.specs.Parts.{taking, whole}
-use Rattle.std.proofs.Common.{rules}
 use Rattle.controllers.proofs.ack_irq.Goals as goal
 
 pub returns : goal.returns

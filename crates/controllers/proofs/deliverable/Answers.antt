@@ -1,6 +1,6 @@
 -- `controllers::deliverable` meets its contract. By cases on the ignore setting. Assumes nothing.
 use Rattle.rules.specs.Lines.{deliverable}
-use Rattle.std.proofs.Common.{refl, rules}
+use Rattle.std.proofs.Common.{refl}
 use Rattle.controllers.proofs.deliverable.Goals as goal
 
 pub returns-then-ignore : goal.returns-then-ignore

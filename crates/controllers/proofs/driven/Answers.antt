@@ -1,6 +1,6 @@
 -- `controllers::driven` meets its contract. One line for each controller. Assumes nothing.
 use Rattle.rules.specs.Lines.{driven}
-use Rattle.std.proofs.Common.{◌≡◌, suc, ◌-◌, ◌∙◌, arith, rules}
+use Rattle.std.proofs.Common.{◌≡◌, suc, ◌-◌, ◌∙◌, arith}
 use Rattle.controllers.proofs.driven.Goals as goal
 
 pub returns-in-0 : goal.returns-in-0

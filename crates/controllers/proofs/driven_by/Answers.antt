@@ -1,5 +1,4 @@
 -- `controllers::driven_by` meets its contract. What `driven` ensures. Assumes nothing.
-use Rattle.std.proofs.Common.{rules}
 use Rattle.controllers.proofs.driven_by.Goals as goal
 
 pub returns : goal.returns

@@ -1,5 +1,4 @@
 -- `controllers::given` meets its contract. What `owned_from` ensures. Assumes nothing.
-use Rattle.std.proofs.Common.{rules}
 use Rattle.controllers.proofs.given.Goals as goal
 
 pub returns : goal.returns

@@ -1,7 +1,7 @@
 -- `controllers::hear` meets its contract: one line for each case. Assumes nothing.
 use Rattle.controllers.proofs.DeviceLaws.{hear-nothing, hear_source}
 use Rattle.rules.specs.With.{with_taken}
-use Rattle.std.proofs.Common.{refl, rules}
+use Rattle.std.proofs.Common.{refl}
 use Rattle.controllers.proofs.hear.Goals as goal
 
 pub returns-then-loud-eq0 : goal.returns-then-loud-eq0

@@ -1,6 +1,6 @@
 -- `controllers::heard_from` meets its contract. What its callees ensure, put together. Assumes nothing.
 use Rattle.controllers.specs.Levels.{loud_in}
-use Rattle.std.proofs.Common.{◌∙◌, rules}
+use Rattle.std.proofs.Common.{◌∙◌}
 use Rattle.controllers.proofs.heard_from.Goals as goal
 
 pub returns : goal.returns

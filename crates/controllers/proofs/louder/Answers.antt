@@ -1,6 +1,5 @@
 -- `controllers::louder` meets its contract. One line for each case. Assumes nothing.
 use Rattle.controllers.proofs.AboveLaws.{louder_here, louder_there, louder_silent}
-use Rattle.std.proofs.Common.{rules}
 use Rattle.controllers.proofs.louder.Goals as goal
 
 pub returns-then-best-l : goal.returns-then-best-l

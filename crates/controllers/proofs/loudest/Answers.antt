@@ -1,8 +1,7 @@
 -- `controllers::loudest` meets its contract. The loop's invariant: the loudest so far and the loudest of the sources that are left make up
 -- the loudest of all. The measure is the mask that is left. Assumes nothing.
 use Rattle.controllers.proofs.LevelLaws.{lowest_set, walk_less, loudest-turn, loudest_start, loudest_end}
-use Rattle.rules.specs.Lines.{loudest}
-use Rattle.std.proofs.Common.{◌≡◌, ◌^◌, ◌<◌, max, arith, rules}
+use Rattle.std.proofs.Common.{arith}
 use Rattle.controllers.proofs.loudest.Goals as goal
 
 pub loop-p-init : goal.loop-p-init

@@ -1,7 +1,6 @@
 -- `controllers::loudest` meets its contract. The loop's invariant: the loudest so far and the loudest of the sources that are left make up
-use Rattle.controllers.proofs.LevelLaws.{lowest_set, walk_less, loudest-turn, loudest_start, loudest_end}
 use Rattle.rules.specs.Lines.{loudest}
-use Rattle.std.proofs.Common.{◌≡◌, ◌^◌, ◌<◌, max, arith, rules}
+use Rattle.std.proofs.Common.{◌≡◌, ◌^◌, ◌<◌, max}
 use Rattle.controllers.proofs.loudest.Given as goal
 
 abbrev pub invariant-loop-p : goal.invariant-loop-p

@@ -1,10 +1,9 @@
 -- `controllers::loudest_above` meets its contract. The loop's invariant: what was found, over what is found in the sources that are left,
 -- is what is found in all. The measure is the mask that is left. Assumes nothing.
-use Rattle.std.proofs.Common.{◌≡◌, ◌^◌, ◌<◌, arith, rules}
+use Rattle.std.proofs.Common.{arith}
 use Rattle.controllers.proofs.AboveLaws.{over_none, above-turn, above_end, found_at}
 use Rattle.controllers.proofs.LevelLaws.{highest_set, walk_less}
-use Rattle.controllers.specs.Levels.{found, over}
-use Rattle.rules.specs.Lines.{loudest_above}
+use Rattle.controllers.specs.Levels.{found}
 use Rattle.controllers.proofs.loudest_above.Goals as goal
 
 pub loop-p-init : goal.loop-p-init

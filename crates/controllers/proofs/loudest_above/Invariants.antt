@@ -1,7 +1,5 @@
 -- `controllers::loudest_above` meets its contract. The loop's invariant: what was found, over what is found in the sources that are left,
-use Rattle.std.proofs.Common.{◌≡◌, ◌^◌, ◌<◌, arith, rules}
-use Rattle.controllers.proofs.AboveLaws.{over_none, above-turn, above_end, found_at}
-use Rattle.controllers.proofs.LevelLaws.{highest_set, walk_less}
+use Rattle.std.proofs.Common.{◌≡◌, ◌^◌, ◌<◌}
 use Rattle.controllers.specs.Levels.{found, over}
 use Rattle.rules.specs.Lines.{loudest_above}
 use Rattle.controllers.proofs.loudest_above.Given as goal

@@ -1,6 +1,5 @@
 -- `controllers::relevelled` meets its contract: what the callees ensure of each controller. Assumes nothing.
 use Rattle.controllers.proofs.DeviceLaws.{made_anew}
-use Rattle.std.proofs.Common.{rules}
 use Rattle.controllers.proofs.relevelled.Goals as goal
 
 pub returns : goal.returns

@@ -1,8 +1,7 @@
 -- `controllers::waiting` meets its contract. The loop's invariant: from here on the channels that are left give what all give from the
 -- start. The measure is their number. Assumes nothing.
 use Rattle.controllers.proofs.InputLaws.{waiting-turn, waiting_end}
-use Rattle.controllers.specs.Waiting.{waiting_in}
-use Rattle.std.proofs.Common.{◌≡◌, ◌-◌, ◌≤◌, refl, arith, rules}
+use Rattle.std.proofs.Common.{refl, arith}
 use Rattle.controllers.proofs.waiting.Goals as goal
 
 pub loop-i-init : goal.loop-i-init

@@ -1,7 +1,6 @@
 -- `controllers::waiting` meets its contract. The loop's invariant: from here on the channels that are left give what all give from the
-use Rattle.controllers.proofs.InputLaws.{waiting-turn, waiting_end}
 use Rattle.controllers.specs.Waiting.{waiting_in}
-use Rattle.std.proofs.Common.{◌≡◌, ◌-◌, ◌≤◌, refl, arith, rules}
+use Rattle.std.proofs.Common.{◌≡◌, ◌-◌, ◌≤◌}
 use Rattle.controllers.proofs.waiting.Given as goal
 
 abbrev pub invariant-loop-i : goal.invariant-loop-i

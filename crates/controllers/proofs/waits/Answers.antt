@@ -1,5 +1,5 @@
 -- `controllers::waits` meets its contract. By cases on the count. Assumes nothing.
-use Rattle.std.proofs.Common.{◌∙◌, rules, eq-eqb, ne_eqb}
+use Rattle.std.proofs.Common.{◌∙◌, eq-eqb, ne_eqb}
 use Rattle.controllers.proofs.waits.Goals as goal
 
 pub returns-then-count-eq0 : goal.returns-then-count-eq0

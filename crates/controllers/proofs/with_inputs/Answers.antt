@@ -1,7 +1,7 @@
 -- `controllers::with_inputs` meets its contract: the act of the rules, with what the callees ensure of each controller and of the requests. Assumes nothing.
 use Rattle.controllers.proofs.InputLaws.{inputs-held, inputs_keep, requesting-answers}
 use Rattle.act.specs.Parts.{counted}
-use Rattle.std.proofs.Common.{refl, rules}
+use Rattle.std.proofs.Common.{refl}
 use Rattle.controllers.proofs.with_inputs.Goals as goal
 
 pub returns : goal.returns

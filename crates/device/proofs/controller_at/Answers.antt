@@ -1,6 +1,5 @@
 -- `device::controller_at` meets its contract: its bounds are those of the type. Assumes nothing.
 use mathlib.Core.Path.{sym, subst}
-use borrow.Author.Rules.{rules}
 use Rattle.rules.specs.View.{view}
 use Rattle.rules.proofs.Typed.{sound}
 use Rattle.rules.proofs.ViewLaws.{controller_viewed}

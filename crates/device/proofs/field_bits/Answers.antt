@@ -1,7 +1,6 @@
 -- `device::field_bits` meets its contract: a table for the scalars, one for a controller, and one width for each array; priorities stand in the chip's mode alone. Assumes nothing.
 use mathlib.Core.Path.{refl}
 use native.Mathlib.Omega.{arith}
-use borrow.Author.Rules.{rules}
 use Rattle.rules.specs.Fields.{bits_of}
 use Rattle.device.proofs.Laws.{found_inside, found_bits, listed_bits, own_bits_lem, priority_found, priority_bits}
 use Rattle.device.proofs.field_bits.Goals as goal

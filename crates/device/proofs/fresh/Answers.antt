@@ -1,6 +1,5 @@
 -- `device::fresh` meets its contract: the three controllers are the fresh one, priorities those of the mode. Assumes nothing.
 use mathlib.Core.Path.{refl}
-use borrow.Author.Rules.{rules}
 use Rattle.rules.specs.Calls.{fresh}
 use Rattle.device.proofs.fresh.Goals as goal
 

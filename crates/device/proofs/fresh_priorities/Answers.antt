@@ -1,5 +1,4 @@
 -- `device::fresh_priorities` meets its contract, in each mode. Assumes nothing.
-use borrow.Author.Rules.{rules}
 use Rattle.device.proofs.Laws.{own_numbers, no_numbers}
 use Rattle.device.proofs.fresh_priorities.Goals as goal
 

@@ -1,6 +1,5 @@
 -- `device::from_list` meets its contract: number by number. Assumes nothing.
 use mathlib.Core.Path.{refl}
-use borrow.Author.Rules.{rules}
 use Rattle.device.specs.Spots.{cut, low}
 use Rattle.device.proofs.from_list.Goals as goal
 

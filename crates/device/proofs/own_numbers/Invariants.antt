@@ -1,8 +1,7 @@
 -- `device::own_numbers` meets its contract. The loop's invariant: the numbers behind those that are left are there. Assumes nothing.
-use mathlib.Core.Path.{◌≡◌, ◌∙◌}
+use mathlib.Core.Path.{◌≡◌}
 use Prim.Native.Nat.{◌≤◌}
-use native.Mathlib.Omega.{arith}
-use Rattle.device.proofs.Laws.{counted_to, counted_none, counted-turn, counted_all}
+use Rattle.device.proofs.Laws.{counted_to}
 use Rattle.device.proofs.own_numbers.Given as goal
 
 abbrev pub invariant-loop-left : goal.invariant-loop-left

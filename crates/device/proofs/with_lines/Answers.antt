@@ -1,6 +1,5 @@
 -- `device::with_lines` meets its contract: one controller changed, and what it stands for. Assumes nothing.
 use mathlib.Core.Path.{refl}
-use borrow.Author.Rules.{rules}
 use Rattle.rules.specs.With.{with_lines}
 use Rattle.rules.proofs.ViewLaws.{put_viewed}
 use Rattle.device.proofs.with_lines.Goals as goal

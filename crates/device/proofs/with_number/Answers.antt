@@ -1,7 +1,6 @@
 -- `device::with_number` meets its contract: what the number leads to is stored at its spot. Assumes nothing.
 use mathlib.Core.Path.{refl}
 use borrow.Author.Tests.{ltb-true}
-use borrow.Author.Rules.{rules}
 use Rattle.rules.specs.Fields.{bits_of}
 use Rattle.device.proofs.Laws.{found_inside, found_fits, found_puts, fits_bits, priority_byte}
 use Rattle.device.proofs.with_number.Goals as goal

@@ -1,7 +1,6 @@
 -- `device::with_own` meets its contract: one of four. Assumes nothing.
 use mathlib.Core.Path.{◌≡◌}
 use native.Mathlib.Omega.{arith}
-use borrow.Author.Rules.{rules}
 use Rattle.rules.specs.Fields.{bits_of, of_controller}
 use Rattle.device.proofs.with_own.Goals as goal
 

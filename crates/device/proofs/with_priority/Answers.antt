@@ -1,5 +1,4 @@
 -- `device::with_priority` meets its contract: no bit of the value is cut. Assumes nothing.
-use borrow.Author.Rules.{rules}
 use Rattle.device.proofs.Laws.{priority_put}
 use Rattle.device.proofs.with_priority.Goals as goal
 

@@ -1,6 +1,5 @@
 -- `device::with_source` meets its contract: one level byte of one controller changed, and what it stands for. Assumes nothing.
 use mathlib.Core.Path.{refl}
-use borrow.Author.Rules.{rules}
 use lib.ListN.{set}
 use Rattle.rules.specs.With.{with_levels}
 use Rattle.rules.proofs.ViewLaws.{put_viewed}

@@ -2,7 +2,6 @@
 use Prim.Native.Nat.{◌%◌, ◌^◌}
 use Rattle.direct.proofs.Laws.{proper_core, heard_left}
 use Rattle.act.specs.Parts.{taking}
-use borrow.Author.Rules.{rules}
 use Rattle.direct.proofs.acknowledge_by.Goals as goal
 
 pub returns : goal.returns

@@ -1,6 +1,5 @@
 -- `direct::answered` meets its contract. Assumes nothing.
 use mathlib.Core.Path.{refl}
-use borrow.Author.Rules.{rules}
 use Rattle.direct.proofs.answered.Goals as goal
 
 pub returns : goal.returns

@@ -2,7 +2,6 @@
 use Rattle.direct.proofs.Laws.{fresh_unknown, fresh_unmoded, fresh-made}
 use mathlib.Core.Path.{refl}
 use native.Mathlib.Omega.{arith}
-use borrow.Author.Rules.{rules}
 use Rattle.direct.proofs.fresh_by.Goals as goal
 
 pub returns-then-ignore_masks-gt1 : goal.returns-then-ignore_masks-gt1

@@ -1,10 +1,8 @@
 -- `direct::load_by` meets its contract. Assumes nothing.
 use Rattle.direct.proofs.Laws.{load_not, load_made}
 use Rattle.image.proofs.Rows.{image_long}
-use borrow.Author.Tests.{not-true, not-false}
 use mathlib.Core.Path.{refl, sym, ◌∙◌}
 use native.Mathlib.Omega.{arith}
-use borrow.Author.Rules.{rules}
 use Rattle.direct.proofs.load_by.Goals as goal
 
 pub returns-then-not-is_image : goal.returns-then-not-is_image

@@ -2,7 +2,6 @@
 use Rattle.direct.proofs.Laws.{proper_core, fed_left}
 use Rattle.rules.specs.Calls.{pending}
 use Rattle.act.specs.Parts.{counted}
-use borrow.Author.Rules.{rules}
 use Rattle.direct.proofs.pending_by.Goals as goal
 
 pub returns : goal.returns

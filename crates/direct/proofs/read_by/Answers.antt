@@ -1,7 +1,6 @@
 -- `direct::read_by` meets its contract. Assumes nothing.
 use Rattle.answers.specs.Answers.{read_by}
 use mathlib.Core.Path.{ap, ◌∙◌}
-use borrow.Author.Rules.{rules}
 use Rattle.direct.proofs.read_by.Goals as goal
 
 pub returns : goal.returns

@@ -3,7 +3,6 @@ use mathlib.Core.Path.{refl}
 use Rattle.direct.proofs.Laws.{proper_core, fed_left}
 use Rattle.rules.specs.Calls.{run}
 use Rattle.act.specs.Parts.{ordered, working}
-use borrow.Author.Rules.{rules}
 use Rattle.direct.proofs.run_by.Goals as goal
 
 pub returns : goal.returns

@@ -1,6 +1,5 @@
 -- `direct::take_back_by` meets its contract. Assumes nothing.
 use Rattle.direct.proofs.Laws.{act_left, spared_device}
-use borrow.Author.Rules.{rules}
 use Rattle.direct.proofs.take_back_by.Goals as goal
 
 pub returns : goal.returns

@@ -2,7 +2,6 @@
 use Rattle.direct.proofs.Laws.{proper_core, fed_left, spared_answer}
 use Rattle.rules.specs.Calls.{write}
 use Rattle.act.specs.Parts.{ordered, tabled, counted}
-use borrow.Author.Rules.{rules}
 use Rattle.direct.proofs.write_by.Goals as goal
 
 pub returns : goal.returns

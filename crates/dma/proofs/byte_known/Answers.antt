@@ -2,7 +2,6 @@
 use Rattle.dma.proofs.Laws.{write-command, byte-there}
 use Rattle.rules.specs.Calls.{is_none}
 use mathlib.Core.Path.{sym, ◌∙◌}
-use borrow.Author.Rules.{rules}
 use Rattle.dma.proofs.byte_known.Goals as goal
 
 pub returns-then-within : goal.returns-then-within

@@ -5,7 +5,6 @@ use Rattle.act.proofs.Laws.{on-nothing}
 use Rattle.rules.specs.Calls.{or_nothing}
 use native.Mathlib.Omega.{arith}
 use mathlib.Core.Path.{sym, ◌∙◌}
-use borrow.Author.Rules.{rules}
 use Rattle.dma.proofs.byte_written.Goals as goal
 
 pub overflow_sub-off : goal.overflow_sub-off

@@ -2,7 +2,6 @@
 use Rattle.dma.proofs.Laws.{write-table, write_none}
 use Rattle.dma_read.proofs.Laws.{in_table_lem}
 use Rattle.rules.specs.Calls.{is_none}
-use borrow.Author.Rules.{rules}
 use Rattle.dma.proofs.edma_known.Goals as goal
 
 pub returns-then-within : goal.returns-then-within

@@ -2,7 +2,6 @@
 use Rattle.dma.specs.Started.{starts_in}
 use borrow.Author.Tests.{le-ltb, lt-ltb}
 use native.Mathlib.Omega.{arith}
-use borrow.Author.Rules.{rules}
 use Rattle.dma.proofs.starts.Goals as goal
 
 pub returns-then-off-size : goal.returns-then-off-size

@@ -4,7 +4,6 @@ use Rattle.dma_read.proofs.Laws.{small}
 use Rattle.rules.proofs.Powers.{one_shl}
 use Rattle.act.specs.Worlds.{came_to}
 use native.Mathlib.Omega.{arith}
-use borrow.Author.Rules.{rules}
 use Rattle.dma.proofs.tcd_write.Goals as goal
 
 pub store_table-stored-requires : goal.store_table-stored-requires

@@ -4,7 +4,6 @@ use Rattle.dma_commands.proofs.Laws.{numbers_done}
 use Rattle.act.proofs.Laws.{stays}
 use Rattle.rules.specs.Registers.{pick, dma_arms}
 use Rattle.rules.specs.Calls.{or_nothing}
-use borrow.Author.Rules.{rules}
 use Rattle.dma.proofs.word_written.Goals as goal
 
 pub returns-in_default-s : goal.returns-in_default-s

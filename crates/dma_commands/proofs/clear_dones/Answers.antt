@@ -1,7 +1,6 @@
 -- `dma_commands::clear_dones` meets its contract: the flags of each channel. Assumes nothing.
 use Rattle.dma_commands.specs.Commands.{flagged}
 use Rattle.rules.specs.Registers.{clear_dones}
-use borrow.Author.Rules.{rules}
 use Rattle.dma_commands.proofs.clear_dones.Goals as goal
 
 pub returns : goal.returns

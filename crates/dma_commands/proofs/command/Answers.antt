@@ -2,7 +2,6 @@
 use Rattle.dma_commands.proofs.Laws.{numbers_done}
 use Rattle.act.proofs.Laws.{stays}
 use Rattle.rules.specs.Registers.{command}
-use borrow.Author.Rules.{rules}
 use Rattle.dma_commands.proofs.command.Goals as goal
 
 pub returns-in_default-s : goal.returns-in_default-s

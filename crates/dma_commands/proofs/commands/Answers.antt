@@ -1,7 +1,6 @@
 -- `dma_commands::commands` meets its contract: one command after another. Assumes nothing.
 use Rattle.dma_commands.proofs.Laws.{in_row}
 use Rattle.act.specs.Worlds.{came_to}
-use borrow.Author.Rules.{rules}
 use Rattle.dma_commands.proofs.commands.Goals as goal
 
 pub returns : goal.returns

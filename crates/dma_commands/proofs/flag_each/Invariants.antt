@@ -1,15 +1,12 @@
 -- `dma_commands::flag_each` meets its contract. Assumes nothing.
 use lib.ListN.{length}
-use borrow.Author.Rules.{rules}
-use native.Mathlib.Omega.{arith}
 use Rattle.rules.specs.Carry.{Lent}
-use Rattle.dma_commands.proofs.Laws.{flag_turn, flag_end}
 use Rattle.dma_commands.specs.Commands.{flagged}
 use Rattle.act.specs.Worlds.{came_to, on}
 use Rattle.rules.specs.State.{Device}
 use Rattle.rules.specs.Registers.{flag_each}
 use Prim.Native.Nat.{ℕ, ◌-◌, ◌≤◌}
-use mathlib.Core.Path.{◌≡◌, refl}
+use mathlib.Core.Path.{◌≡◌}
 use mathlib.Core.List.{List}
 use Rattle.dma_commands.proofs.flag_each.Given as goal
 

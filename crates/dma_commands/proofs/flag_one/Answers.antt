@@ -1,9 +1,7 @@
 -- `dma_commands::flag_one` meets its contract. Assumes nothing.
 use Rattle.dma_commands.proofs.Laws.{flag_done}
 use Rattle.act.proofs.Laws.{passed, taken}
-use borrow.Author.Tests.{not-true, not-false}
 use native.Mathlib.Omega.{arith}
-use borrow.Author.Rules.{rules}
 use Rattle.dma_commands.proofs.flag_one.Goals as goal
 
 pub returns-then-not-on : goal.returns-then-not-on

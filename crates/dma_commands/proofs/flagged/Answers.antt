@@ -1,6 +1,5 @@
 -- `dma_commands::flagged` meets its contract. Assumes nothing.
 use Rattle.dma_commands.specs.Commands.{flagged}
-use borrow.Author.Rules.{rules}
 use Rattle.dma_commands.proofs.flagged.Goals as goal
 
 pub returns-then-start : goal.returns-then-start

@@ -1,6 +1,5 @@
 -- `dma_commands::set_starts` meets its contract: the flags of each channel, and then KICK. Assumes nothing.
 use Rattle.dma_commands.proofs.Laws.{starts}
-use borrow.Author.Rules.{rules}
 use Rattle.dma_commands.proofs.set_starts.Goals as goal
 
 pub returns : goal.returns

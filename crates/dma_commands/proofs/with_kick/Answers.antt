@@ -1,6 +1,5 @@
 -- `dma_commands::with_kick` meets its contract. A refused step stays, and one that goes on has another KICK. Assumes nothing.
 use Rattle.act.proofs.Laws.{stays, skips, taken, scalar_changed}
-use borrow.Author.Tests.{not-true, not-false}
 use lib.Bits.{bit_or, or_lt}
 use mathlib.Core.Path.{refl}
 use borrow.Author.Rules.{rules}

@@ -3,7 +3,6 @@ use Rattle.dma_read.proofs.Laws.{in_table_lem, read_table, read_no-size}
 use Rattle.masks.proofs.Ranges.{within_true}
 use native.Mathlib.Omega.{arith}
 use mathlib.Core.Path.{sym, ◌∙◌}
-use borrow.Author.Rules.{rules}
 use Rattle.dma_read.proofs.edma_read.Goals as goal
 
 pub overflow_sub-off : goal.overflow_sub-off

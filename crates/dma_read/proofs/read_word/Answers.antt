@@ -2,7 +2,6 @@
 use Rattle.dma_read.proofs.Laws.{read_cell}
 use Rattle.rules.specs.Registers.{look_up, dma_cells}
 use borrow.Author.Tests.{ne_eqb}
-use borrow.Author.Rules.{rules}
 use Rattle.dma_read.proofs.read_word.Goals as goal
 
 pub returns-in-0 : goal.returns-in-0

@@ -3,7 +3,6 @@ use Rattle.dma_read.proofs.Laws.{four}
 use Rattle.rules.proofs.Typed.{table-size}
 use mathlib.Core.Path.{sym}
 use native.Mathlib.Omega.{arith}
-use borrow.Author.Rules.{rules}
 use Rattle.dma_read.proofs.tcd_read.Goals as goal
 
 pub slice_bounds-get1-end : goal.slice_bounds-get1-end

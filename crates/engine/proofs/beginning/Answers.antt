@@ -1,8 +1,6 @@
 -- `engine::beginning` meets its contract. Assumes nothing.
 use mathlib.Core.Path.{refl}
 use Rattle.engine.proofs.Starts.{begins_run, begins_service}
-use borrow.Author.Tests.{not-true, not-false}
-use borrow.Author.Rules.{rules}
 use Rattle.engine.proofs.beginning.Goals as goal
 
 pub returns-then-not-again : goal.returns-then-not-again

@@ -1,6 +1,5 @@
 -- `engine::idle` meets its contract. Assumes nothing.
 use Rattle.engine.proofs.Starts.{asked_again}
-use borrow.Author.Rules.{rules}
 use Rattle.engine.proofs.idle.Goals as goal
 
 pub returns-then-again : goal.returns-then-again

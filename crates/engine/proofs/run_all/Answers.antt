@@ -10,5 +10,5 @@ returns c =
     let ran = c.take_turns-s in
     record {
       does = ran.ensures;
-      cleared-staging = zeros ran.new.staging (length a.staging.now) c.clear.ensures (search (rules, ran.auto.staging));
+      cleared_staging = zeros ran.new.staging (length a.staging.now) c.clear.ensures (search (rules, ran.auto.staging));
     }

@@ -7,7 +7,6 @@ use Rattle.act.specs.Parts.{ordered, working}
 use Rattle.rules.specs.declared.Heard.TheVariants as Heard
 use Rattle.rules.specs.Calls.{verdict_number}
 use mathlib.Core.Path.{refl, sym, ap, ◌∙◌}
-use borrow.Author.Rules.{rules}
 use Rattle.engine.proofs.run_in.Goals as goal
 
 pub returns-in_default : goal.returns-in_default

@@ -1,6 +1,5 @@
 -- `engine::take_turns` meets its contract. Assumes nothing.
 use Rattle.engine.proofs.Starts.{turns_idle, turns-chip, turns_old}
-use borrow.Author.Rules.{rules}
 use Rattle.engine.proofs.take_turns.Goals as goal
 
 pub returns-then-idle : goal.returns-then-idle

@@ -1,6 +1,5 @@
 -- `engine::tested` meets its contract. Assumes nothing.
 use Rattle.engine.proofs.Starts.{window_bad, journal_bad, time_bad, none_bad}
-use borrow.Author.Rules.{rules}
 use Rattle.engine.proofs.tested.Goals as goal
 
 pub returns-then-bad_window : goal.returns-then-bad_window

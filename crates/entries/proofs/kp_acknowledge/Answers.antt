@@ -3,10 +3,8 @@ use Rattle.entries.proofs.Laws.{no_entry, heard_entry}
 use Rattle.rules.specs.Calls.{after, ack}
 use Prim.Native.Nat.{◌%◌, ◌^◌}
 use Rattle.image.proofs.Rows.{image_long}
-use borrow.Author.Tests.{not-true, not-false}
 use mathlib.Core.Path.{sym, ◌∙◌}
 use native.Mathlib.Omega.{arith}
-use borrow.Author.Rules.{rules}
 use Rattle.entries.proofs.kp_acknowledge.Goals as goal
 
 pub returns-then-not-is_image : goal.returns-then-not-is_image

@@ -1,6 +1,5 @@
 -- `entries::kp_capture` meets its contract. Assumes nothing.
 use Rattle.entries.proofs.Laws.{no-descriptor, capture_entry}
-use borrow.Author.Rules.{rules}
 use Rattle.entries.proofs.kp_capture.Goals as goal
 
 pub returns-then-descriptor-ne32 : goal.returns-then-descriptor-ne32

@@ -2,9 +2,7 @@
 use Rattle.entries.proofs.Laws.{no_read, read_entry}
 use Rattle.rules.specs.Calls.{after_read}
 use Rattle.image.proofs.Rows.{image_long}
-use borrow.Author.Tests.{not-true, not-false}
 use mathlib.Core.Path.{sym, ◌∙◌}
-use borrow.Author.Rules.{rules}
 use Rattle.entries.proofs.kp_read.Goals as goal
 
 pub returns-then-not-is_image : goal.returns-then-not-is_image

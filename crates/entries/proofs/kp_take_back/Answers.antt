@@ -2,11 +2,9 @@
 use Rattle.entries.proofs.Laws.{no_entry, act_entry}
 use Rattle.rules.specs.Calls.{after_back}
 use Rattle.image.proofs.Rows.{image_long}
-use borrow.Author.Tests.{not-true, not-false}
 use mathlib.Core.List.{[]}
 use mathlib.Core.Path.{sym, ◌∙◌}
 use native.Mathlib.Omega.{arith}
-use borrow.Author.Rules.{rules}
 use Rattle.entries.proofs.kp_take_back.Goals as goal
 
 pub returns-then-not-is_image : goal.returns-then-not-is_image

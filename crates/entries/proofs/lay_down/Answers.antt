@@ -1,6 +1,5 @@
 -- `entries::lay_down` meets its contract. Assumes nothing.
 use Rattle.entries.proofs.Laws.{laid_down, left_so}
-use borrow.Author.Rules.{rules}
 use Rattle.entries.proofs.lay_down.Goals as goal
 
 pub returns-in_default : goal.returns-in_default

@@ -1,5 +1,4 @@
 -- `entries::put_back` meets its contract. Assumes nothing.
-use borrow.Author.Rules.{rules}
 use Rattle.entries.proofs.put_back.Goals as goal
 
 pub returns : goal.returns

@@ -1,7 +1,6 @@
 -- `equal_sizes::all_known` meets its contract: each test shows its part. Assumes nothing.
 use mathlib.Core.Bool.{false≢true}
-use Rattle.std.proofs.Common.{◌*◌, ◌≤◌, arith, rules, leb-true}
-use borrow.Author.Tests.{not-false}
+use Rattle.std.proofs.Common.{◌*◌, ◌≤◌, arith, leb-true}
 use Rattle.equal_sizes.proofs.all_known.Goals as goal
 
 pub returns-then-width-gt4 : goal.returns-then-width-gt4

@@ -1,6 +1,6 @@
 -- `equal_sizes::inside` meets its contract: the test's numbers, whose sums and product fit 64 bits. Assumes nothing.
 use mathlib.Core.Bool.{false≢true}
-use Rattle.std.proofs.Common.{arith, rules, leb-true}
+use Rattle.std.proofs.Common.{arith, leb-true}
 use Rattle.equal_sizes.proofs.KnownLaws.{product_fits, all_inside}
 use Rattle.equal_sizes.proofs.inside.Goals as goal
 

@@ -1,5 +1,4 @@
 -- `equal_sizes::move_asking` meets its contract, by the size. Assumes nothing.
-use Rattle.std.proofs.Common.{rules}
 use Rattle.equal_sizes.proofs.Laws.{bursting}
 use Rattle.equal_sizes.proofs.move_asking.Goals as goal
 

@@ -1,8 +1,7 @@
 -- `equal_sizes::move_bursts` meets its contract. The loop's invariant and measure are those of `move_sizes4`; a turn
 -- is the law of a size in units of 4. Assumes nothing.
-use Rattle.std.proofs.Common.{◌≡◌, length, refl, arith, rules}
-use Rattle.rules.specs.Minor.{move_sizes}
-use Rattle.act.proofs.Loops.{Remains, turn_on, turn-off}
+use Rattle.std.proofs.Common.{refl, arith}
+use Rattle.act.proofs.Loops.{turn_on, turn-off}
 use Rattle.equal_sizes.proofs.Laws.{bursts_on, sizes_end}
 use Rattle.equal_sizes.specs.Moves.{moved}
 use Rattle.equal_sizes.proofs.move_bursts.Goals as goal

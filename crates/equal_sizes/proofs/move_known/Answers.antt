@@ -1,5 +1,4 @@
 -- `equal_sizes::move_known` meets its contract: the law of a unit whose place is known. Assumes nothing.
-use Rattle.std.proofs.Common.{rules}
 use Rattle.journal.proofs.Laws.{table-width}
 use Rattle.equal_sizes.proofs.KnownLaws.{within_fits, unit_there}
 use Rattle.equal_sizes.proofs.move_known.Goals as goal

@@ -1,5 +1,4 @@
 -- `equal_sizes::move_known_sizes` meets its contract, by the width. Assumes nothing.
-use Rattle.std.proofs.Common.{rules}
 use Rattle.equal_sizes.proofs.Laws.{four}
 use Rattle.equal_sizes.proofs.move_known_sizes.Goals as goal
 

@@ -1,5 +1,4 @@
 -- `equal_sizes::move_sizes` meets its contract: known units have the same tree. Assumes nothing.
-use Rattle.std.proofs.Common.{rules}
 use Rattle.rules.specs.Calls.{world_of}
 use Rattle.equal_sizes.proofs.KnownLaws.{same_tree}
 use Rattle.equal_sizes.proofs.move_sizes.Goals as goal

@@ -1,8 +1,8 @@
 -- `equal_sizes::move_sizes1` meets its contract. The loop's invariant: what is left to move from here is the whole
 -- from the start. The measure is the sizes that are left. A turn is the law of a size that is one unit, at 1. Assumes nothing.
-use Rattle.std.proofs.Common.{◌≡◌, ◌^◌, ◌<◌, length, refl, arith, lit<, lit≤, rules}
-use Rattle.rules.specs.Minor.{move_unit, move_sizes}
-use Rattle.act.proofs.Loops.{Remains, turn_on, turn-off}
+use Rattle.std.proofs.Common.{refl, arith, lit<, lit≤, rules}
+use Rattle.rules.specs.Minor.{move_unit}
+use Rattle.act.proofs.Loops.{turn_on, turn-off}
 use Rattle.equal_sizes.proofs.Laws.{single_on, sizes_end}
 use Rattle.equal_sizes.specs.Moves.{moved}
 use Rattle.equal_sizes.proofs.move_sizes1.Goals as goal

@@ -1,9 +1,7 @@
 -- `equal_sizes::move_sizes4` meets its contract. The loop's invariant: what is left to move from here is the whole
-use Rattle.std.proofs.Common.{◌≡◌, ◌^◌, ◌<◌, length, refl, arith, lit<, lit≤, rules}
-use Rattle.rules.specs.Minor.{move_unit, move_sizes}
-use Rattle.act.proofs.Loops.{Remains, turn_on, turn-off}
-use Rattle.equal_sizes.proofs.Laws.{single_on, sizes_end}
-use Rattle.equal_sizes.specs.Moves.{moved}
+use Rattle.std.proofs.Common.{◌≡◌, ◌^◌, ◌<◌, length}
+use Rattle.rules.specs.Minor.{move_sizes}
+use Rattle.act.proofs.Loops.{Remains}
 use Rattle.equal_sizes.proofs.move_sizes4.Given as goal
 
 abbrev pub invariant-loop-left : goal.invariant-loop-left

@@ -1,5 +1,4 @@
 -- `equal_sizes::move_unit` meets its contract, by where the unit is read and by its width: the laws of a unit at every width. Assumes nothing.
-use Rattle.std.proofs.Common.{rules}
 use Rattle.memory.proofs.Laws.{at_fits}
 use Rattle.equal_sizes.proofs.Laws.{unit_outside, unit_read, four}
 use Rattle.equal_sizes.proofs.move_unit.Goals as goal

@@ -1,9 +1,9 @@
 -- `equal_sizes::move_units4` meets its contract. The loop's invariant: the units that are left, from number k on, are
 -- the whole from the start. The measure is the units that are left. Assumes nothing.
-use Rattle.std.proofs.Common.{◌≡◌, ◌-◌, ◌≤◌, length, refl, arith, rules}
+use Rattle.std.proofs.Common.{refl, arith}
 use native.Mathlib.Nat.{sub-zero}
-use Rattle.rules.specs.Minor.{move_unit, move_units}
-use Rattle.act.proofs.Loops.{Remains, turn_on, turn-off}
+use Rattle.rules.specs.Minor.{move_unit}
+use Rattle.act.proofs.Loops.{turn_on, turn-off}
 use Rattle.act.specs.Worlds.{walked}
 use Rattle.equal_sizes.proofs.Laws.{units-on, units_end}
 use Rattle.equal_sizes.proofs.move_units4.Goals as goal

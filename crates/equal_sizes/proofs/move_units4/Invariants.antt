@@ -1,10 +1,7 @@
 -- `equal_sizes::move_units4` meets its contract. The loop's invariant: the units that are left, from number k on, are
-use Rattle.std.proofs.Common.{◌≡◌, ◌-◌, ◌≤◌, length, refl, arith, rules}
-use native.Mathlib.Nat.{sub-zero}
-use Rattle.rules.specs.Minor.{move_unit, move_units}
-use Rattle.act.proofs.Loops.{Remains, turn_on, turn-off}
-use Rattle.act.specs.Worlds.{walked}
-use Rattle.equal_sizes.proofs.Laws.{units-on, units_end}
+use Rattle.std.proofs.Common.{◌≡◌, ◌-◌, ◌≤◌, length}
+use Rattle.rules.specs.Minor.{move_units}
+use Rattle.act.proofs.Loops.{Remains}
 use Rattle.equal_sizes.proofs.move_units4.Given as goal
 
 abbrev pub invariant-loop-k : goal.invariant-loop-k

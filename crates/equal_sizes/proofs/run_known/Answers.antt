@@ -1,10 +1,9 @@
 -- `equal_sizes::run_known` meets its contract. The loop's invariant: what is left to move from here is the whole from the start, and is known to
 -- lie in the window with room for its records. The measure is the sizes that are left. Assumes nothing.
-use Rattle.std.proofs.Common.{◌≡◌, ◌^◌, ◌<◌, length, refl, ◌∙◌, arith, rules}
+use Rattle.std.proofs.Common.{refl, ◌∙◌, arith, rules}
 use Rattle.rules.specs.Minor.{move_unit}
 use Rattle.words.proofs.Laws.{modulo_none}
-use Rattle.act.proofs.Loops.{Remains, turn_on}
-use Rattle.equal_sizes.specs.Known.{Known, sizes_of}
+use Rattle.act.proofs.Loops.{turn_on}
 use Rattle.equal_sizes.proofs.Laws.{single_on, sizes_end}
 use Rattle.equal_sizes.proofs.KnownLaws.{here_source, here_target, here_room, known_on}
 use Rattle.equal_sizes.proofs.run_known.Goals as goal

@@ -1,5 +1,5 @@
 -- `equal_sizes::store` meets its contract, by where the unit falls and whether its record fits: the laws of a window store at every width. Assumes nothing.
-use Rattle.std.proofs.Common.{length, arith, rules}
+use Rattle.std.proofs.Common.{length, arith}
 use Rattle.rules.specs.Carry.{legal}
 use Rattle.act.proofs.Laws.{window_outside, window_full}
 use Rattle.memory.proofs.Laws.{not_there, at_there}

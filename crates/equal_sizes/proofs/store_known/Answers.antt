@@ -1,5 +1,4 @@
 -- `equal_sizes::store_known` meets its contract: the law of a store in the window, at every width. Assumes nothing.
-use Rattle.std.proofs.Common.{rules}
 use Rattle.journal.proofs.Laws.{table-width}
 use Rattle.equal_sizes.proofs.KnownLaws.{within_fits, store-there}
 use Rattle.equal_sizes.proofs.store_known.Goals as goal

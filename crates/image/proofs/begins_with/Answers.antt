@@ -1,10 +1,5 @@
 -- `image::begins_with` meets its contract. The loop's invariant: whether those behind the numbers that are left are alike. Assumes nothing.
 use Rattle.image.proofs.FitLaws.{first_none, first-turn, first_all}
-use Rattle.image.specs.Image.{alike}
-use Rattle.rules.specs.Bytes.{part}
-use lib.ListN.{length, drop}
-use Prim.Native.Nat.{◌-◌, ◌≤◌}
-use mathlib.Core.Path.{◌≡◌}
 use native.Mathlib.Omega.{arith}
 use Rattle.image.proofs.begins_with.Goals as goal
 

@@ -1,7 +1,6 @@
 -- `image::byte_at` meets its contract. Assumes nothing.
 use Rattle.image.specs.Image.{number_in}
 use mathlib.Core.Path.{refl}
-use borrow.Author.Rules.{rules}
 use Rattle.image.proofs.byte_at.Goals as goal
 
 pub returns : goal.returns

@@ -1,11 +1,5 @@
 -- `image::fits` meets its contract. The loop's invariant: the greatest of the numbers behind those that are left fits exactly if all of them do. Assumes nothing.
 use Rattle.image.proofs.FitLaws.{row_none, row_turn, row_all}
-use Rattle.image.specs.Fits.{fits_in}
-use lib.Dec.{ltb}
-use lib.ListN.{replicate}
-use Prim.Native.Nat.{◌+◌, ◌-◌, ◌^◌, ◌≤◌}
-use mathlib.Core.Path.{◌≡◌}
-use borrow.Author.Rules.{rules}
 use native.Mathlib.Omega.{arith}
 use Rattle.image.proofs.fits.Goals as goal
 

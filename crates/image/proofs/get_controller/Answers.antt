@@ -1,7 +1,6 @@
 -- `image::get_controller` meets its contract. Assumes nothing.
 use Rattle.image.specs.Image.{controller_in}
 use mathlib.Core.Path.{refl}
-use borrow.Author.Rules.{rules}
 use Rattle.image.proofs.get_controller.Goals as goal
 
 pub returns : goal.returns

@@ -1,10 +1,7 @@
 -- `image::get_counts` meets its contract. The loop's invariant: the numbers behind those that are left are there. Assumes nothing.
 use Rattle.image.proofs.Laws.{numbers_none, numbers_turn, numbers_all}
-use Rattle.image.specs.Image.{numbers_in}
-use Rattle.rules.specs.Bytes.{splice}
-use lib.ListN.{length, length-set}
-use Prim.Native.Nat.{◌+◌, ◌-◌, ◌≤◌}
-use mathlib.Core.Path.{◌≡◌, refl}
+use lib.ListN.{length-set}
+use mathlib.Core.Path.{refl}
 use native.Mathlib.Omega.{arith}
 use Rattle.image.proofs.get_counts.Goals as goal
 

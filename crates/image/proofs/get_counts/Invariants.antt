@@ -1,11 +1,9 @@
 -- `image::get_counts` meets its contract. The loop's invariant: the numbers behind those that are left are there. Assumes nothing.
-use Rattle.image.proofs.Laws.{numbers_none, numbers_turn, numbers_all}
 use Rattle.image.specs.Image.{numbers_in}
 use Rattle.rules.specs.Bytes.{splice}
-use lib.ListN.{length, length-set}
+use lib.ListN.{length}
 use Prim.Native.Nat.{◌+◌, ◌-◌, ◌≤◌}
-use mathlib.Core.Path.{◌≡◌, refl}
-use native.Mathlib.Omega.{arith}
+use mathlib.Core.Path.{◌≡◌}
 use Rattle.image.proofs.get_counts.Given as goal
 
 abbrev pub invariant-loop-left : goal.invariant-loop-left

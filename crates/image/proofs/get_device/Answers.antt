@@ -4,7 +4,6 @@ use Rattle.image.proofs.Laws.{scalars_got}
 use Rattle.image.proofs.Rows.{priorities_got, device_got}
 use native.Mathlib.Omega.{arith}
 use lib.Dec.{lit<}
-use borrow.Author.Rules.{rules}
 use Rattle.image.proofs.get_device.Goals as goal
 
 pub get_controller-b-requires : goal.get_controller-b-requires

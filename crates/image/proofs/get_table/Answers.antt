@@ -1,9 +1,7 @@
 -- `image::get_table` meets its contract. The loop's invariant: the bytes behind those that are left are there. Assumes nothing.
 use Rattle.image.proofs.Laws.{part_none, part-turn, part_all}
-use Rattle.rules.specs.Bytes.{part, splice}
-use lib.ListN.{length, length-set}
-use Prim.Native.Nat.{◌-◌, ◌≤◌}
-use mathlib.Core.Path.{◌≡◌, refl}
+use lib.ListN.{length-set}
+use mathlib.Core.Path.{refl}
 use native.Mathlib.Omega.{arith}
 use Rattle.image.proofs.get_table.Goals as goal
 

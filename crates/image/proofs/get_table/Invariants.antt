@@ -1,10 +1,8 @@
 -- `image::get_table` meets its contract. The loop's invariant: the bytes behind those that are left are there. Assumes nothing.
-use Rattle.image.proofs.Laws.{part_none, part-turn, part_all}
 use Rattle.rules.specs.Bytes.{part, splice}
-use lib.ListN.{length, length-set}
+use lib.ListN.{length}
 use Prim.Native.Nat.{◌-◌, ◌≤◌}
-use mathlib.Core.Path.{◌≡◌, refl}
-use native.Mathlib.Omega.{arith}
+use mathlib.Core.Path.{◌≡◌}
 use Rattle.image.proofs.get_table.Given as goal
 
 abbrev pub invariant-loop-left : goal.invariant-loop-left

@@ -1,7 +1,6 @@
 -- `image::half_at` meets its contract. Assumes nothing.
 use Rattle.image.specs.Image.{number_in}
 use mathlib.Core.Path.{refl}
-use borrow.Author.Rules.{rules}
 use Rattle.image.proofs.half_at.Goals as goal
 
 pub returns : goal.returns

@@ -1,6 +1,5 @@
 -- `image::own_fit` meets its contract. Assumes nothing.
 use Rattle.image.proofs.FitLaws.{own_fit}
-use borrow.Author.Rules.{rules}
 use Rattle.image.proofs.own_fit.Goals as goal
 
 pub returns : goal.returns

@@ -1,11 +1,9 @@
 -- `image::put_bytes` meets its contract. The loop's invariant: the numbers behind those that are left are there. Assumes nothing.
-use Rattle.image.proofs.Laws.{laid_none, laid-turn, laid_all}
 use Rattle.image.specs.Image.{laid}
 use Rattle.rules.specs.Bytes.{splice}
 use lib.ListN.{length, drop}
 use Prim.Native.Nat.{◌+◌, ◌*◌, ◌≤◌}
-use mathlib.Core.Path.{◌≡◌, refl}
-use native.Mathlib.Omega.{arith}
+use mathlib.Core.Path.{◌≡◌}
 use Rattle.image.proofs.put_bytes.Given as goal
 
 abbrev pub invariant-loop-left : goal.invariant-loop-left

@@ -3,7 +3,6 @@ use Rattle.image.proofs.Rows.{image_laid}
 use Rattle.rules.specs.View.{view}
 use Rattle.rules.proofs.Typed.{sound, table-size}
 use native.Mathlib.Omega.{arith}
-use borrow.Author.Rules.{rules}
 use Rattle.image.proofs.put_device.Goals as goal
 
 pub put_table-requires : goal.put_table-requires

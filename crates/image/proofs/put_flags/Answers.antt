@@ -1,6 +1,5 @@
 -- `image::put_flags` meets its contract. Assumes nothing.
 use Rattle.image.proofs.Laws.{flags-put}
-use borrow.Author.Rules.{rules}
 use Rattle.image.proofs.put_flags.Goals as goal
 
 pub returns : goal.returns

@@ -1,7 +1,6 @@
 -- `image::put_own` meets its contract. Assumes nothing.
 use Rattle.image.proofs.Rows.{own_laid}
 use Rattle.rules.specs.View.{view}
-use borrow.Author.Rules.{rules}
 use Rattle.image.proofs.put_own.Goals as goal
 
 pub returns : goal.returns

@@ -2,7 +2,6 @@
 use Rattle.image.proofs.Rows.{held-long, sixes_laid, none_laid}
 use Rattle.rules.proofs.Typed.{sound}
 use native.Mathlib.Omega.{arith}
-use borrow.Author.Rules.{rules}
 use Rattle.image.proofs.put_priorities.Goals as goal
 
 pub put_sixes-requires : goal.put_sixes-requires

@@ -2,7 +2,6 @@
 use Rattle.image.proofs.Rows.{scalars-laid}
 use Rattle.rules.specs.View.{view}
 use Rattle.rules.proofs.Typed.{sound}
-use borrow.Author.Rules.{rules}
 use Rattle.image.proofs.put_scalars.Goals as goal
 
 pub returns : goal.returns

@@ -1,11 +1,10 @@
 -- `image::put_sixes` meets its contract. The loop's invariant: the numbers behind those that are left are there. Assumes nothing.
-use Rattle.image.proofs.Laws.{sixes, sixes_none, sixes_turn, laid_all}
+use Rattle.image.proofs.Laws.{sixes}
 use Rattle.image.specs.Image.{laid}
 use Rattle.rules.specs.Bytes.{splice}
 use lib.ListN.{length, drop}
 use Prim.Native.Nat.{◌+◌, ◌*◌, ◌≤◌}
-use mathlib.Core.Path.{◌≡◌, refl}
-use native.Mathlib.Omega.{arith}
+use mathlib.Core.Path.{◌≡◌}
 use Rattle.image.proofs.put_sixes.Given as goal
 
 abbrev pub invariant-loop-left : goal.invariant-loop-left

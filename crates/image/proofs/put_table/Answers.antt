@@ -1,9 +1,7 @@
 -- `image::put_table` meets its contract. The loop's invariant: the bytes behind those that are left are there. Assumes nothing.
 use Rattle.image.proofs.Laws.{over_none, over-turn, over_all}
-use Rattle.rules.specs.Bytes.{splice}
-use lib.ListN.{length, drop, length-set}
-use Prim.Native.Nat.{◌≤◌}
-use mathlib.Core.Path.{◌≡◌, refl}
+use lib.ListN.{length-set}
+use mathlib.Core.Path.{refl}
 use native.Mathlib.Omega.{arith}
 use Rattle.image.proofs.put_table.Goals as goal
 

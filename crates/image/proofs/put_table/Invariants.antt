@@ -1,10 +1,8 @@
 -- `image::put_table` meets its contract. The loop's invariant: the bytes behind those that are left are there. Assumes nothing.
-use Rattle.image.proofs.Laws.{over_none, over-turn, over_all}
 use Rattle.rules.specs.Bytes.{splice}
-use lib.ListN.{length, drop, length-set}
+use lib.ListN.{length, drop}
 use Prim.Native.Nat.{◌≤◌}
-use mathlib.Core.Path.{◌≡◌, refl}
-use native.Mathlib.Omega.{arith}
+use mathlib.Core.Path.{◌≡◌}
 use Rattle.image.proofs.put_table.Given as goal
 
 abbrev pub invariant-loop-left : goal.invariant-loop-left

@@ -4,7 +4,6 @@ use Rattle.rules.specs.View.{view}
 use Rattle.rules.proofs.Typed.{sound}
 use native.Mathlib.Omega.{arith}
 use mathlib.Core.List.{[]}
-use borrow.Author.Rules.{rules}
 use Rattle.image.proofs.put_taken.Goals as goal
 
 pub put_wides-requires : goal.put_wides-requires

@@ -1,6 +1,5 @@
 -- `image::scalars_fit` meets its contract. Assumes nothing.
 use Rattle.image.proofs.FitLaws.{scalars_fit_lem}
-use borrow.Author.Rules.{rules}
 use Rattle.image.proofs.scalars_fit.Goals as goal
 
 pub returns : goal.returns

@@ -1,6 +1,5 @@
 -- `image::setting_fits` meets its contract. Assumes nothing.
 use Rattle.image.proofs.FitLaws.{setting_fit}
-use borrow.Author.Rules.{rules}
 use Rattle.image.proofs.setting_fits.Goals as goal
 
 pub returns : goal.returns

@@ -1,6 +1,5 @@
 -- `intc::command_written` meets its contract. One line for each size. Assumes nothing.
 use Rattle.intc.proofs.WriteLaws.{written_none, command_none}
-use borrow.Author.Rules.{rules}
 use Rattle.intc.proofs.command_written.Goals as goal
 
 pub returns-in-1 : goal.returns-in-1

@@ -3,7 +3,6 @@ use Rattle.intc.proofs.WriteLaws.{written_some, written_none, config_in, half_no
 use Rattle.rules.specs.Registers.{pick, controller_arms}
 use Rattle.rules.specs.Act.{put, CONFIG}
 use mathlib.Core.Path.{refl}
-use borrow.Author.Rules.{rules}
 use Rattle.intc.proofs.half_written.Goals as goal
 
 pub returns-in-24 : goal.returns-in-24

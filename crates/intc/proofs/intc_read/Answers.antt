@@ -1,7 +1,6 @@
 -- `intc::intc_read` meets its contract. One line for each size. Assumes nothing.
 use Rattle.intc.proofs.ReadLaws.{read_no-size}
 use mathlib.Core.Path.{◌∙◌}
-use borrow.Author.Rules.{rules}
 use Rattle.intc.proofs.intc_read.Goals as goal
 
 pub returns-in-1 : goal.returns-in-1

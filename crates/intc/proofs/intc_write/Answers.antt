@@ -2,7 +2,6 @@
 use Rattle.intc.specs.Writes.{write_to}
 use Rattle.intc.proofs.WriteLaws.{written_held}
 use native.Mathlib.Omega.{arith}
-use borrow.Author.Rules.{rules}
 use Rattle.intc.proofs.intc_write.Goals as goal
 
 pub returns : goal.returns

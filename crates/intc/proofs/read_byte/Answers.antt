@@ -3,7 +3,6 @@ use Rattle.masks.proofs.Ranges.{within_true}
 use Rattle.intc.proofs.ReadLaws.{read_level, read_command, read_no-byte}
 use native.Mathlib.Omega.{arith}
 use mathlib.Core.Path.{◌∙◌, sym}
-use borrow.Author.Rules.{rules}
 use Rattle.intc.proofs.read_byte.Goals as goal
 
 pub overflow_sub-off : goal.overflow_sub-off

@@ -2,7 +2,6 @@
 use Rattle.masks.proofs.Ranges.{never}
 use Rattle.rules.specs.Registers.{controller_read, look_up, controller_cells}
 use borrow.Author.Tests.{ne_eqb}
-use borrow.Author.Rules.{rules}
 use Rattle.intc.proofs.read_word.Goals as goal
 
 pub returns-in-0 : goal.returns-in-0

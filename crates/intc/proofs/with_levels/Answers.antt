@@ -3,11 +3,6 @@
 use Rattle.intc.proofs.WriteLaws.{levels_start, levels-turn, levels_end}
 use native.Mathlib.Omega.{arith}
 use Rattle.rules.specs.View.{view_controller}
-use Rattle.rules.specs.With.{with_levels}
-use Rattle.rules.specs.Bytes.{bytes, splice}
-use borrow.Author.Rules.{rules}
-use Prim.Native.Nat.{◌+◌, ◌-◌, ◌/◌, ◌^◌, ◌≤◌}
-use mathlib.Core.Path.{◌≡◌}
 use Rattle.intc.proofs.with_levels.Goals as goal
 
 pub loop-i-init : goal.loop-i-init

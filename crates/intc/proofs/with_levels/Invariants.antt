@@ -1,10 +1,7 @@
 -- `intc::with_levels` meets its contract. The loop's invariant: the bytes from `i` on are laid down, and the rest of the value is what
-use Rattle.intc.proofs.WriteLaws.{levels_start, levels-turn, levels_end}
-use native.Mathlib.Omega.{arith}
 use Rattle.rules.specs.View.{view_controller}
 use Rattle.rules.specs.With.{with_levels}
 use Rattle.rules.specs.Bytes.{bytes, splice}
-use borrow.Author.Rules.{rules}
 use Prim.Native.Nat.{◌+◌, ◌-◌, ◌/◌, ◌^◌, ◌≤◌}
 use mathlib.Core.Path.{◌≡◌}
 use Rattle.intc.proofs.with_levels.Given as goal

@@ -5,7 +5,6 @@ use lib.ListN.{length}
 use Prim.Native.Nat.{◌+◌}
 use mathlib.Core.Path.{sym}
 use borrow.Author.Tests.{lt-leb}
-use borrow.Author.Rules.{rules}
 use Rattle.journal.proofs.has_room.Goals as goal
 
 pub returns-then-journal-lt16 : goal.returns-then-journal-lt16

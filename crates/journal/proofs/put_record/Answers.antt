@@ -1,7 +1,6 @@
 -- `journal::put_record` meets its contract: its six stores are the record's bytes. Assumes nothing.
 use mathlib.Core.Path.{◌∙◌}
 use native.Mathlib.Omega.{arith}
-use borrow.Author.Rules.{rules}
 use lib.ListN.{length-set}
 use Rattle.journal.proofs.Laws.{record_laid}
 use Rattle.journal.proofs.put_record.Goals as goal

@@ -1,6 +1,5 @@
 -- `journal::roll_back` meets its contract: the records are undone, and then cleared to the journal's end. Assumes nothing.
 use Rattle.journal.proofs.UndoLaws.{zeros_to_end}
-use borrow.Author.Rules.{rules}
 use Rattle.journal.proofs.roll_back.Goals as goal
 
 pub returns : goal.returns

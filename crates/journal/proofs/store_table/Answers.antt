@@ -4,7 +4,6 @@ use Rattle.act.proofs.Laws.{stays, table_full, table_done}
 use lib.ListN.{length}
 use mathlib.Core.Path.{refl}
 use native.Mathlib.Omega.{arith}
-use borrow.Author.Rules.{rules}
 use Rattle.std.proofs.Common.{ap, not}
 use Rattle.journal.proofs.store_table.Goals as goal
 

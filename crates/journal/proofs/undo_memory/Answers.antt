@@ -2,10 +2,8 @@
 use Rattle.journal.proofs.UndoLaws.{other_width, other_place, laid_back}
 use Rattle.journal.proofs.Laws.{memory_width, table-width}
 use Rattle.memory.proofs.Laws.{at_fits}
-use borrow.Author.Tests.{not-false}
 use native.Mathlib.Omega.{arith}
 use mathlib.Core.Path.{sym, ◌∙◌}
-use borrow.Author.Rules.{rules}
 use Rattle.std.proofs.Common.{ap, not}
 use Rattle.journal.proofs.undo_memory.Goals as goal
 

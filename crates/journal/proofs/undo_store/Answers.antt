@@ -1,6 +1,5 @@
 -- `journal::undo_store` meets its contract, by the record's kind. Assumes nothing.
 use Rattle.journal.proofs.UndoLaws.{of_kind, other_kind}
-use borrow.Author.Rules.{rules}
 use Rattle.journal.proofs.undo_store.Goals as goal
 
 pub returns-in-0 : goal.returns-in-0

@@ -1,13 +1,8 @@
 -- `journal::undo_stores` meets its contract. The loop's invariant: what is left to undo from here gives what undoing all gives from the start. Assumes nothing.
-use Rattle.journal.specs.Undoing.{machine_of, undo_lines}
 use Rattle.journal.proofs.UndoLaws.{undo-turn, undo_none}
-use Rattle.rules.specs.State.{Device}
-use lib.ListN.{length, drop}
-use borrow.Author.Rules.{rules}
 use native.Mathlib.Omega.{arith}
 use native.Mathlib.Nat.{sub-zero}
-use Prim.Native.Nat.{◌-◌, ◌≤◌}
-use mathlib.Core.Path.{◌≡◌, refl, sym, ◌∙◌}
+use mathlib.Core.Path.{refl, sym, ◌∙◌}
 use Rattle.journal.proofs.undo_stores.Goals as goal
 
 pub loop-done-init : goal.loop-done-init

@@ -1,10 +1,8 @@
 -- `journal::undo_table` meets its contract. Assumes nothing.
 use Rattle.journal.proofs.UndoLaws.{other_table-width, past-table, table_back}
 use Rattle.journal.proofs.Laws.{legal-width}
-use borrow.Author.Tests.{not-false}
 use native.Mathlib.Omega.{arith}
 use mathlib.Core.Path.{sym, ◌∙◌}
-use borrow.Author.Rules.{rules}
 use Rattle.std.proofs.Common.{ap, not}
 use Rattle.journal.proofs.undo_table.Goals as goal
 

@@ -1,6 +1,5 @@
 -- `judge::advanced` meets its contract. Assumes nothing.
 use Rattle.judge.specs.Walks.{advanced}
-use Rattle.std.proofs.Common.{rules}
 use Rattle.judge.proofs.advanced.Goals as goal
 
 pub returns : goal.returns

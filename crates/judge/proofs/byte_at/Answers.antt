@@ -1,6 +1,5 @@
 -- `judge::byte_at` meets its contract. Assumes nothing.
 use Rattle.judge.proofs.Cases.{no_record, no_byte, the_byte}
-use Rattle.std.proofs.Common.{rules}
 use Rattle.judge.proofs.byte_at.Goals as goal
 
 pub returns-then-here-place : goal.returns-then-here-place

@@ -1,6 +1,5 @@
 -- `judge::captured` meets its contract. Assumes nothing.
 use Rattle.judge.proofs.Judging.{judged-by}
-use Rattle.std.proofs.Common.{rules}
 use Rattle.judge.proofs.captured.Goals as goal
 
 pub returns : goal.returns

@@ -1,6 +1,6 @@
 -- `judge::due` meets its contract. Assumes nothing.
 use Rattle.judge.proofs.Cases.{within_move, within_lay, within_read, within-write, due_move, due_lay, due_read, due_fetch, due_over}
-use Rattle.std.proofs.Common.{arith, rules}
+use Rattle.std.proofs.Common.{arith}
 use Rattle.judge.proofs.due.Goals as goal
 
 pub unit_at-requires : goal.unit_at-requires

@@ -1,6 +1,5 @@
 -- `judge::ended_at` meets its contract. Assumes nothing.
 use Rattle.judge.specs.Walks.{ended_at}
-use Rattle.std.proofs.Common.{rules}
 use Rattle.judge.proofs.ended_at.Goals as goal
 
 pub returns-in-Read : goal.returns-in-Read

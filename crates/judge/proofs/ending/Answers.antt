@@ -1,6 +1,6 @@
 -- `judge::ending` meets its contract. Assumes nothing.
 use Rattle.judge.specs.Walks.{ending_of}
-use Rattle.std.proofs.Common.{arith, rules}
+use Rattle.std.proofs.Common.{arith}
 use Rattle.judge.proofs.ending.Goals as goal
 
 pub returns-then-p : goal.returns-then-p

@@ -1,6 +1,6 @@
 -- `judge::fetch_on` meets its contract. Assumes nothing.
 use Rattle.judge.proofs.Cases.{fetched_last, fetched_one}
-use Rattle.std.proofs.Common.{arith, rules}
+use Rattle.std.proofs.Common.{arith}
 use Rattle.judge.proofs.fetch_on.Goals as goal
 
 pub returns-then-left-eq0 : goal.returns-then-left-eq0

@@ -1,6 +1,5 @@
 -- `judge::gathers` meets its contract. Assumes nothing.
 use Rattle.judge.proofs.Cases.{not_last, the_last}
-use Rattle.std.proofs.Common.{rules}
 use Rattle.judge.proofs.gathers.Goals as goal
 
 pub returns-then-count_of-ne1 : goal.returns-then-count_of-ne1

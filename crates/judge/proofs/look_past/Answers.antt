@@ -1,6 +1,5 @@
 -- `judge::look_past` meets its contract. Assumes nothing.
 use Rattle.judge.specs.Walks.{look_past}
-use Rattle.std.proofs.Common.{rules}
 use Rattle.judge.proofs.look_past.Goals as goal
 
 pub returns-in-Fit : goal.returns-in-Fit

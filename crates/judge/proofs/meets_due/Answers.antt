@@ -1,6 +1,5 @@
 -- `judge::meets_due` meets its contract. Assumes nothing.
 use Rattle.judge.specs.Walks.{meets_due}
-use Rattle.std.proofs.Common.{rules}
 use Rattle.judge.proofs.meets_due.Goals as goal
 
 pub returns-in-Read : goal.returns-in-Read

@@ -1,6 +1,5 @@
 -- `judge::move_on` meets its contract. Assumes nothing.
 use Rattle.judge.proofs.Cases.{moved-size, moved_unit}
-use Rattle.std.proofs.Common.{rules}
 use Rattle.judge.proofs.move_on.Goals as goal
 
 pub returns-then-at-eq0 : goal.returns-then-at-eq0

@@ -1,6 +1,5 @@
 -- `judge::moves_from` meets its contract. Assumes nothing.
 use Rattle.judge.proofs.Cases.{no_sizes, some_sizes}
-use Rattle.std.proofs.Common.{rules}
 use Rattle.judge.proofs.moves_from.Goals as goal
 
 pub returns-then-sizes-eq0 : goal.returns-then-sizes-eq0

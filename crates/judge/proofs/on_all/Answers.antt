@@ -1,7 +1,7 @@
 -- `judge::on_all` meets its contract. Assumes nothing.
-use Rattle.std.proofs.Common.{◌≡◌, ℕ, ◌-◌, ◌≤◌, sym, ap, ◌∙◌, arith, rules}
+use Rattle.std.proofs.Common.{◌≡◌, ℕ, ◌-◌, sym, ap, ◌∙◌, arith}
 use Rattle.judge.proofs.Cases.{all_turn, all_end}
-use Rattle.judge.specs.Walks.{Safe, on_all}
+use Rattle.judge.specs.Walks.{on_all}
 use Rattle.judge.proofs.on_all.Goals as goal
 
 pub loop-k-init : goal.loop-k-init

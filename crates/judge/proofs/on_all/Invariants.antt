@@ -1,6 +1,5 @@
 -- `judge::on_all` meets its contract. Assumes nothing.
-use Rattle.std.proofs.Common.{◌≡◌, ℕ, ◌-◌, ◌≤◌, sym, ap, ◌∙◌, arith, rules}
-use Rattle.judge.proofs.Cases.{all_turn, all_end}
+use Rattle.std.proofs.Common.{◌≡◌, ◌-◌, ◌≤◌}
 use Rattle.judge.specs.Walks.{Safe, on_all}
 use Rattle.judge.proofs.on_all.Given as goal
 

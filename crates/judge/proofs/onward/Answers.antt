@@ -1,7 +1,6 @@
 -- `judge::onward` meets its contract. Assumes nothing.
 use Rattle.judge.proofs.Cases.{within_move, within_lay, within_read, within-write, within-fetch}
 use Rattle.judge.specs.Walks.{onward_of}
-use Rattle.std.proofs.Common.{rules}
 use Rattle.judge.proofs.onward.Goals as goal
 
 pub move_on-requires : goal.move_on-requires

@@ -1,6 +1,6 @@
 -- `judge::origin_in` meets its contract. Assumes nothing.
 use Rattle.judge.proofs.Cases.{within-write, quotient_fits}
-use Rattle.std.proofs.Common.{lit<, rules}
+use Rattle.std.proofs.Common.{lit<}
 use Rattle.judge.specs.Walks.{origin_in}
 use Rattle.judge.proofs.origin_in.Goals as goal
 

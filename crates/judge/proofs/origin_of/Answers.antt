@@ -1,5 +1,5 @@
 -- `judge::origin_of` meets its contract. Assumes nothing.
-use Rattle.std.proofs.Common.{lit<, rules}
+use Rattle.std.proofs.Common.{lit<}
 use Rattle.judge.proofs.Cases.{safe_going}
 use Rattle.judge.specs.Walks.{origin_of}
 use Rattle.judge.proofs.origin_of.Goals as goal

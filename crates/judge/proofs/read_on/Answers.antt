@@ -1,6 +1,5 @@
 -- `judge::read_on` meets its contract. Assumes nothing.
 use Rattle.judge.proofs.Cases.{read_size, read_unit_lem}
-use Rattle.std.proofs.Common.{rules}
 use Rattle.judge.proofs.read_on.Goals as goal
 
 pub returns-then-at-eq0 : goal.returns-then-at-eq0

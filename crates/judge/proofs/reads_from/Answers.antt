@@ -1,6 +1,5 @@
 -- `judge::reads_from` meets its contract. Assumes nothing.
 use Rattle.judge.proofs.Cases.{no_reads, some_reads}
-use Rattle.std.proofs.Common.{rules}
 use Rattle.judge.proofs.reads_from.Goals as goal
 
 pub returns-then-sizes-eq0 : goal.returns-then-sizes-eq0

@@ -1,6 +1,5 @@
 -- `judge::reads_of` meets its contract. Assumes nothing.
 use Rattle.judge.proofs.Cases.{reads_so}
-use Rattle.std.proofs.Common.{rules}
 use Rattle.judge.proofs.reads_of.Goals as goal
 
 pub returns : goal.returns

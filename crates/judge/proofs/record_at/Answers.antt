@@ -1,6 +1,5 @@
 -- `judge::record_at` meets its contract. Assumes nothing.
 use Rattle.judge.proofs.Cases.{no_mark, no_kind, bad_width, too_wide, no_flaw}
-use borrow.Author.Tests.{not-true, not-false}
 use Rattle.std.proofs.Common.{sym, ◌∙◌, rules}
 use Rattle.judge.proofs.record_at.Goals as goal
 

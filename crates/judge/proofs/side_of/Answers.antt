@@ -1,6 +1,5 @@
 -- `judge::side_of` meets its contract. Assumes nothing.
 use Rattle.judge.proofs.Cases.{a_side}
-use Rattle.std.proofs.Common.{rules}
 use Rattle.judge.proofs.side_of.Goals as goal
 
 pub returns : goal.returns

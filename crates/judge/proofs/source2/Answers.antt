@@ -1,5 +1,5 @@
 -- `judge::source2` meets its contract. Assumes nothing.
-use Rattle.std.proofs.Common.{arith, rules}
+use Rattle.std.proofs.Common.{arith}
 use Rattle.judge.proofs.Cases.{two_bytes}
 use Rattle.judge.proofs.source2.Goals as goal
 

@@ -1,6 +1,5 @@
 -- `judge::source4` meets its contract. Assumes nothing.
 use Rattle.judge.proofs.Cases.{four_bytes}
-use Rattle.std.proofs.Common.{rules}
 use Rattle.judge.proofs.source4.Goals as goal
 
 pub returns : goal.returns

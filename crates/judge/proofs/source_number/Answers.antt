@@ -1,6 +1,5 @@
 -- `judge::source_number` meets its contract. Assumes nothing.
 use Rattle.judge.proofs.Cases.{one_byte_lem, the_unit}
-use Rattle.std.proofs.Common.{rules}
 use Rattle.judge.proofs.source_number.Goals as goal
 
 pub returns-in-1 : goal.returns-in-1

@@ -1,6 +1,5 @@
 -- `judge::start` meets its contract. Assumes nothing.
 use Rattle.judge.proofs.Cases.{idle, starts_equal, starts_unequal}
-use Rattle.std.proofs.Common.{rules}
 use Rattle.judge.proofs.start.Goals as goal
 
 pub returns-then-count_of-eq0 : goal.returns-then-count_of-eq0

@@ -1,7 +1,6 @@
 -- `judge::step` meets its contract. Assumes nothing.
 use Rattle.judge.proofs.Cases.{safe_going}
 use Rattle.judge.specs.Walks.{step_of}
-use Rattle.std.proofs.Common.{rules}
 use Rattle.judge.proofs.step.Goals as goal
 
 pub walk_past-requires : goal.walk_past-requires

@@ -1,7 +1,6 @@
 -- `judge::verdict` meets its contract. Assumes nothing.
 use Rattle.judge.proofs.Cases.{safe_going}
 use Rattle.judge.specs.Walks.{verdict_of}
-use Rattle.std.proofs.Common.{rules}
 use Rattle.judge.proofs.verdict.Goals as goal
 
 pub due-requires : goal.due-requires

@@ -1,7 +1,6 @@
 -- `judge::walk_on` meets its contract. Assumes nothing.
 use Rattle.judge.proofs.Cases.{departed, gone_on}
-use borrow.Author.Tests.{not-true, not-false}
-use Rattle.std.proofs.Common.{sym, ◌∙◌, rules}
+use Rattle.std.proofs.Common.{sym, ◌∙◌}
 use Rattle.judge.proofs.walk_on.Goals as goal
 
 pub returns-then-not-meets_due : goal.returns-then-not-meets_due

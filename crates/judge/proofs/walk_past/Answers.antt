@@ -1,6 +1,5 @@
 -- `judge::walk_past` meets its contract. Assumes nothing.
 use Rattle.judge.specs.Walks.{step_of}
-use Rattle.std.proofs.Common.{rules}
 use Rattle.judge.proofs.walk_past.Goals as goal
 
 pub returns-in-Fit : goal.returns-in-Fit

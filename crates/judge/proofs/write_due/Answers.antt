@@ -1,6 +1,5 @@
 -- `judge::write_due` meets its contract. Assumes nothing.
 use Rattle.judge.proofs.Cases.{due_write}
-use Rattle.std.proofs.Common.{rules}
 use Rattle.judge.proofs.write_due.Goals as goal
 
 pub returns : goal.returns

@@ -1,6 +1,6 @@
 -- `judge::write_on` meets its contract. Assumes nothing.
 use Rattle.judge.proofs.Cases.{wrote_last, wrote-size, wrote_unit}
-use Rattle.std.proofs.Common.{arith, rules}
+use Rattle.std.proofs.Common.{arith}
 use Rattle.judge.proofs.write_on.Goals as goal
 
 pub returns-then-at-eq0-2 : goal.returns-then-at-eq0-2

@@ -1,6 +1,6 @@
 -- `judge::writes_from` meets its contract. Assumes nothing.
 use Rattle.judge.proofs.Cases.{no_writes, some_writes}
-use Rattle.std.proofs.Common.{arith, rules}
+use Rattle.std.proofs.Common.{arith}
 use Rattle.judge.proofs.writes_from.Goals as goal
 
 pub returns-then-sizes-eq0 : goal.returns-then-sizes-eq0

@@ -1,5 +1,5 @@
 -- `major_end::csr_loses` meets its contract: what is left is no more than there was. Assumes nothing.
-use Rattle.std.proofs.Common.{arith, rules}
+use Rattle.std.proofs.Common.{arith}
 use Rattle.rules.proofs.Masks.{lose_le}
 use Rattle.major_end.proofs.csr_loses.Goals as goal
 

@@ -1,5 +1,5 @@
 -- `major_end::dma_major_done` meets its contract: the descriptor is read, then one function after another does its part of the tree. Assumes nothing.
-use Rattle.std.proofs.Common.{◌∙◌, arith, rules}
+use Rattle.std.proofs.Common.{◌∙◌, arith}
 use Rattle.rules.specs.Minor.{major_end}
 use Rattle.act.proofs.Laws.{then, described}
 use Rattle.major_end.proofs.dma_major_done.Goals as goal

@@ -1,5 +1,5 @@
 -- `major_end::dma_minor_done` meets its contract: the stores and the half way flag, then by whether the new count is 0. Assumes nothing.
-use Rattle.std.proofs.Common.{rules, eq-eqb, ne_eqb}
+use Rattle.std.proofs.Common.{eq-eqb, ne_eqb}
 use Rattle.rules.specs.Minor.{minor_end}
 use Rattle.act.proofs.Laws.{then, picked, left_out}
 use Rattle.major_end.proofs.dma_minor_done.Goals as goal

@@ -1,5 +1,5 @@
 -- `major_end::dma_start_linked` meets its contract: a byte is fetched and stored, and KICK gains the bit. Assumes nothing.
-use Rattle.std.proofs.Common.{sym, ◌∙◌, arith, rules}
+use Rattle.std.proofs.Common.{sym, ◌∙◌, arith}
 use Rattle.rules.specs.Act.{when}
 use Rattle.rules.specs.Minor.{link}
 use Rattle.act.proofs.Laws.{then, fetched}

@@ -1,5 +1,4 @@
 -- `major_end::ended` meets its contract, one bit after another. Assumes nothing.
-use Rattle.std.proofs.Common.{rules}
 use Rattle.major_end.proofs.ended.Goals as goal
 
 pub returns : goal.returns

@@ -1,5 +1,4 @@
 -- `major_end::flags` meets its contract: one change after the other. Assumes nothing.
-use Rattle.std.proofs.Common.{rules}
 use Rattle.rules.specs.Minor.{flags}
 use Rattle.act.proofs.Laws.{then}
 use Rattle.major_end.proofs.flags.Goals as goal

@@ -1,12 +1,7 @@
 -- `major_end::gather` meets its contract. The loop's invariant: what is left to gather, behind the i bytes
 -- that are there, is the whole. The measure is the bytes that are left. Assumes nothing.
-use Rattle.std.proofs.Common.{◌≡◌, ℕ, ◌+◌, ◌-◌, ◌≤◌, List, [], length, take, ◌∙◌, add-zero, add-one, arith, length-set, take-suc-set, rules}
-use Rattle.rules.specs.Carry.{Lent}
-use Rattle.rules.specs.Act.{Act, ◌>>=◌}
-use Rattle.rules.specs.Minor.{gather}
-use Rattle.rules.specs.State.{Device}
+use Rattle.std.proofs.Common.{◌∙◌, add-zero, add-one, arith, length-set, take-suc-set, rules}
 use Rattle.act.proofs.Laws.{stays_so, told_so}
-use Rattle.act.specs.Worlds.{came_to, on}
 use Rattle.memory.proofs.Laws.{at_fits}
 use Rattle.major_end.proofs.Gathering.{gather_outside, gather-inside, gather_end}
 use Rattle.major_end.proofs.gather.Goals as goal
@@ -27,14 +22,13 @@ pub bounds-window-o : goal.bounds-window-o
 bounds-window-o c = omega (arith, at_fits _ _ _ 1 c.where_is.ensures c.in-At.is)
 
 pub loop-i-preserved : goal.loop-i-preserved
-loop-i-preserved c =
-    (
-      omega arith,
-      simp length-set c.loop-i.invariant.1,
-      λ lent d j t m k. rw (add-one c.loop-i.i, take-suc-set c.loop-i.next c.loop-i.i _ (omega arith), ← add-one c.loop-i.i)
-          (gather-inside _ lent d _ _ j t m k 32 _ _ c.loop-i-test.true _ c.wrapping_add_u32-a.ensures.value c.where_is.ensures c.in-At.is
-          ∙ c.loop-i.invariant.2 lent d j t m k),
-    )
+loop-i-preserved c = (
+  omega arith,
+  simp length-set c.loop-i.invariant.1,
+  λ lent d j t m k. rw (add-one c.loop-i.i, take-suc-set c.loop-i.next c.loop-i.i _ (omega arith), ← add-one c.loop-i.i)
+      (gather-inside _ lent d _ _ j t m k 32 _ _ c.loop-i-test.true _ c.wrapping_add_u32-a.ensures.value c.where_is.ensures c.in-At.is
+      ∙ c.loop-i.invariant.2 lent d j t m k),
+)
 
 pub returns : goal.returns
 returns c lent d j t m k =

@@ -1,13 +1,10 @@
 -- `major_end::gather` meets its contract. The loop's invariant: what is left to gather, behind the i bytes
-use Rattle.std.proofs.Common.{◌≡◌, ℕ, ◌+◌, ◌-◌, ◌≤◌, List, [], length, take, ◌∙◌, add-zero, add-one, arith, length-set, take-suc-set, rules}
+use Rattle.std.proofs.Common.{◌≡◌, ℕ, ◌+◌, ◌-◌, ◌≤◌, List, [], length, take}
 use Rattle.rules.specs.Carry.{Lent}
 use Rattle.rules.specs.Act.{Act, ◌>>=◌}
 use Rattle.rules.specs.Minor.{gather}
 use Rattle.rules.specs.State.{Device}
-use Rattle.act.proofs.Laws.{stays_so, told_so}
 use Rattle.act.specs.Worlds.{came_to, on}
-use Rattle.memory.proofs.Laws.{at_fits}
-use Rattle.major_end.proofs.Gathering.{gather_outside, gather-inside, gather_end}
 use Rattle.major_end.proofs.gather.Given as goal
 
 abbrev pub invariant-loop-i : goal.invariant-loop-i

@@ -1,6 +1,4 @@
 -- `major_end::halfway` meets its contract, by its three tests. Assumes nothing.
-use Rattle.std.proofs.Common.{rules}
-use borrow.Author.Tests.{not-true, not-false}
 use Rattle.major_end.proofs.Descriptor.{half_off, half_other, half_same}
 use Rattle.major_end.proofs.halfway.Goals as goal
 

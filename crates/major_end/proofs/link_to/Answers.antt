@@ -1,6 +1,5 @@
 -- `major_end::link_to` meets its contract, by whether the link is on and to another channel. Assumes nothing.
-use Rattle.std.proofs.Common.{rules, eq-eqb, ne_eqb}
-use borrow.Author.Tests.{not-true, not-false}
+use Rattle.std.proofs.Common.{eq-eqb, ne_eqb}
 use Rattle.rules.specs.Minor.{link_to}
 use Rattle.act.proofs.Laws.{passed, taken}
 use Rattle.major_end.proofs.link_to.Goals as goal

@@ -1,5 +1,5 @@
 -- `major_end::load_next` meets its contract: what `gather` gives, `replace` stores. Assumes nothing.
-use Rattle.std.proofs.Common.{◌∙◌, rules}
+use Rattle.std.proofs.Common.{◌∙◌}
 use Rattle.rules.specs.Minor.{load_next}
 use Rattle.major_end.proofs.load_next.Goals as goal
 

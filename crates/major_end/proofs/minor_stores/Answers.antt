@@ -1,5 +1,4 @@
 -- `major_end::minor_stores` meets its contract: four stores, one after another. Assumes nothing.
-use Rattle.std.proofs.Common.{rules}
 use Rattle.rules.specs.Minor.{minor_stores}
 use Rattle.act.proofs.Laws.{then}
 use Rattle.major_end.proofs.minor_stores.Goals as goal

@@ -1,5 +1,5 @@
 -- `major_end::reload` meets its contract, by ESG. Assumes nothing.
-use Rattle.std.proofs.Common.{sym, ◌∙◌, rules}
+use Rattle.std.proofs.Common.{sym, ◌∙◌}
 use Rattle.rules.specs.Minor.{ESG, reload}
 use Rattle.rules.specs.Words.{has}
 use Rattle.act.proofs.Laws.{picked, left_out}

@@ -1,5 +1,5 @@
 -- `major_end::replace` meets its contract: the bytes, read as four words, are stored, and START in them is asked. Assumes nothing.
-use Rattle.std.proofs.Common.{◌∙◌, rules}
+use Rattle.std.proofs.Common.{◌∙◌}
 use Rattle.rules.specs.Minor.{replaced, store_whole, tcd_of}
 use Rattle.act.proofs.Laws.{then}
 use Rattle.major_end.proofs.replace.Goals as goal

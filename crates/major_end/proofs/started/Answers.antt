@@ -1,5 +1,4 @@
 -- `major_end::started` meets its contract, one bit after another. Assumes nothing.
-use Rattle.std.proofs.Common.{rules}
 use Rattle.rules.specs.Minor.{started}
 use Rattle.major_end.proofs.started.Goals as goal
 

@@ -1,5 +1,4 @@
 -- `major_end::store_words` meets its contract: four stores, one after another. Assumes nothing.
-use Rattle.std.proofs.Common.{rules}
 use Rattle.rules.specs.Minor.{store_words}
 use Rattle.act.proofs.Laws.{then}
 use Rattle.major_end.proofs.store_words.Goals as goal

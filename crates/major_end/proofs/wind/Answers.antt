@@ -1,5 +1,4 @@
 -- `major_end::wind` meets its contract: its four words are those of the descriptor wound back. Assumes nothing.
-use Rattle.std.proofs.Common.{rules}
 use Rattle.major_end.proofs.Descriptor.{wound-words}
 use Rattle.major_end.proofs.wind.Goals as goal
 

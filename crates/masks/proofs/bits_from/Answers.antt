@@ -4,7 +4,6 @@ use mathlib.Core.Path.{refl}
 use Rattle.masks.proofs.BitLaws.{bits_lt}
 use Rattle.rules.specs.Lines.{bits_from}
 use Rattle.rules.proofs.Powers.{one_shl, shl_pos}
-use borrow.Author.Rules.{rules}
 use Rattle.masks.proofs.bits_from.Goals as goal
 
 pub nonzero_rem-result : goal.nonzero_rem-result

@@ -4,7 +4,6 @@ use lib.Pow.{pow_mono}
 use native.Mathlib.Omega.{arith}
 use native.Mathlib.Nat.{lt_of_lt_of_le}
 use mathlib.Core.Path.{◌∙◌, sym}
-use borrow.Author.Rules.{rules}
 use Rattle.masks.proofs.bytes_in.Goals as goal
 
 pub overflow_cast-result : goal.overflow_cast-result

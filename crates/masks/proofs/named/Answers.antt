@@ -3,7 +3,6 @@ use Rattle.rules.specs.Words.{gain}
 use Rattle.rules.specs.Registers.{named}
 use mathlib.Core.Path.{◌∙◌, sym}
 use lib.Bits.{or_zero_l}
-use borrow.Author.Rules.{rules}
 use Rattle.masks.proofs.named.Goals as goal
 
 pub returns-then-has_bit : goal.returns-then-has_bit

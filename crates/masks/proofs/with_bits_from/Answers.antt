@@ -1,7 +1,6 @@
 -- `masks::with_bits_from` meets its contract. The bits that are there go, and the new ones come: what is left fits 64 bits. Assumes
 -- nothing.
 use Rattle.masks.proofs.BitLaws.{old_le, replaced, replaced_fits}
-use borrow.Author.Rules.{rules}
 use Rattle.masks.proofs.with_bits_from.Goals as goal
 
 pub overflow_sub-result : goal.overflow_sub-result

@@ -1,7 +1,6 @@
 -- `masks::with_bytes_in` meets its contract. Bytes are bits (`RegisterBytes`). Assumes nothing.
 use Rattle.masks.proofs.RegisterBytes.{with_bytes_bits}
 use mathlib.Core.Path.{◌∙◌, sym}
-use borrow.Author.Rules.{rules}
 use Rattle.masks.proofs.with_bytes_in.Goals as goal
 
 pub returns : goal.returns

@@ -1,7 +1,6 @@
 -- `memory::where_is` meets its contract: below the window, past it, in it. Assumes nothing.
 use Rattle.memory.proofs.Laws.{place_below, place-past, place_in}
 use native.Mathlib.Omega.{arith}
-use borrow.Author.Rules.{rules}
 use Rattle.memory.proofs.where_is.Goals as goal
 
 pub returns-then-address-base : goal.returns-then-address-base

@@ -2,7 +2,6 @@
 use native.Mathlib.Nat.{pos_of_ne-zero}
 use native.Mathlib.Omega.{arith}
 use lib.ListN.{length}
-use borrow.Author.Rules.{rules}
 use Rattle.rules.specs.Carry.{lending}
 use Rattle.act.specs.Worlds.{over}
 use Rattle.minor.proofs.Laws.{pass_idle, pass_not, pass_to}

@@ -1,6 +1,5 @@
 -- `minor::steps_of` meets its contract; a modulo has 5 bits. Assumes nothing.
 use native.Mathlib.Omega.{arith}
-use borrow.Author.Rules.{rules}
 use Rattle.rules.specs.Minor.{smod, dmod}
 use Rattle.minor.specs.Stepping.{steps_of}
 use Rattle.minor.proofs.steps_of.Goals as goal

@@ -1,5 +1,4 @@
 -- `minor::transfer` meets its contract, by whether the sizes are equal. Assumes nothing.
-use borrow.Author.Rules.{rules}
 use Rattle.minor.proofs.Laws.{transfer_equal, transfer_unequal}
 use Rattle.minor.proofs.transfer.Goals as goal
 

@@ -1,6 +1,5 @@
 -- `registers::in_blocks` meets its contract. Assumes nothing.
 use Rattle.rules.specs.Registers.{in_blocks}
-use borrow.Author.Rules.{rules}
 use Rattle.registers.proofs.in_blocks.Goals as goal
 
 pub returns : goal.returns

@@ -4,7 +4,6 @@ use Rattle.act.specs.Parts.{counted, whole}
 use Rattle.rules.specs.declared.Refusal.TheVariants as Refusal
 use Rattle.rules.specs.Calls.{inputs, wrong, barred, check, staging_after, act_of}
 use mathlib.Core.Path.{refl, sym, ◌∙◌}
-use borrow.Author.Rules.{rules}
 use Rattle.registers.proofs.inputs_in.Goals as goal
 
 pub returns-then-bad_journal : goal.returns-then-bad_journal

@@ -1,7 +1,6 @@
 -- `registers::is_priority` meets its contract. Assumes nothing.
 use Rattle.dma_read.specs.Access.{is_priority}
 use borrow.Author.Tests.{ne_eqb}
-use borrow.Author.Rules.{rules}
 use Rattle.registers.proofs.is_priority.Goals as goal
 
 pub returns-then-size-ne1 : goal.returns-then-size-ne1

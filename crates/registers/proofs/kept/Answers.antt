@@ -1,9 +1,7 @@
 -- `registers::kept` meets its contract. Assumes nothing.
 use Rattle.rules.specs.Fields.{bits_of}
-use borrow.Author.Tests.{not-true, not-false}
 use mathlib.Core.Path.{sym}
 use native.Mathlib.Nat.{mod-one}
-use borrow.Author.Rules.{rules}
 use Rattle.registers.proofs.kept.Goals as goal
 
 pub returns-then-not-chip : goal.returns-then-not-chip

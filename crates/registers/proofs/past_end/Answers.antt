@@ -2,10 +2,8 @@
 use Rattle.registers.specs.Asked.{past_end}
 use Rattle.dma_read.proofs.Laws.{small}
 use Rattle.rules.specs.Registers.{in_table}
-use borrow.Author.Tests.{not-true, not-false}
 use native.Mathlib.Omega.{arith}
 use mathlib.Core.Path.{sym, ◌∙◌}
-use borrow.Author.Rules.{rules}
 use Rattle.registers.proofs.past_end.Goals as goal
 
 pub returns-then-not-within : goal.returns-then-not-within

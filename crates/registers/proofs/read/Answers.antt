@@ -1,11 +1,9 @@
 -- `registers::read` meets its contract. Assumes nothing.
 use Rattle.registers.proofs.Laws.{read_no-size, read_no_block, read_dma_after, read_controller-after}
 use Rattle.rules.specs.Registers.{block_of}
-use borrow.Author.Tests.{not-true, not-false}
 use native.Mathlib.Omega.{arith}
 use Prim.Native.Nat.{suc, ◌-◌}
 use mathlib.Core.Path.{◌≡◌, sym, ◌∙◌}
-use borrow.Author.Rules.{rules}
 use Rattle.registers.proofs.read.Goals as goal
 
 pub returns-then-bad_size : goal.returns-then-bad_size

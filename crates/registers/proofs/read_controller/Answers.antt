@@ -1,7 +1,6 @@
 -- `registers::read_controller` meets its contract. Assumes nothing.
 use Rattle.rules.specs.Registers.{read_in}
 use Rattle.rules.proofs.ViewLaws.{controller_viewed}
-use borrow.Author.Rules.{rules}
 use Rattle.registers.proofs.read_controller.Goals as goal
 
 pub returns : goal.returns

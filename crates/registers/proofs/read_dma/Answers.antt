@@ -3,7 +3,6 @@ use Rattle.rules.specs.View.{view}
 use Rattle.registers.proofs.Laws.{fair, end_there}
 use Rattle.rules.specs.Calls.{check, read_unless}
 use mathlib.Core.Path.{sym, ◌∙◌}
-use borrow.Author.Rules.{rules}
 use Rattle.registers.proofs.read_dma.Goals as goal
 
 pub returns-then-past_end : goal.returns-then-past_end

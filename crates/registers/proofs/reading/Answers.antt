@@ -1,6 +1,5 @@
 -- `registers::reading` meets its contract. Assumes nothing.
 use Rattle.rules.specs.Calls.{check, is_none, or_zero, read_unless}
-use borrow.Author.Rules.{rules}
 use Rattle.registers.proofs.reading.Goals as goal
 
 pub returns-in-Value : goal.returns-in-Value

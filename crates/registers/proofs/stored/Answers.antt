@@ -6,7 +6,6 @@ use Rattle.act.specs.Parts.{whole}
 use Rattle.rules.specs.declared.Heard.TheVariants as Heard
 use Rattle.rules.specs.Carry.{lending}
 use Rattle.rules.specs.Calls.{levelled}
-use borrow.Author.Rules.{rules}
 use Rattle.registers.proofs.stored.Goals as goal
 
 pub returns : goal.returns

@@ -5,7 +5,6 @@ use Rattle.rules.proofs.Each.{typed_proper}
 use Rattle.rules.specs.declared.Device.{Device}
 use Rattle.rules.specs.Calls.{write}
 use mathlib.Core.Path.{ap, ◌∙◌}
-use borrow.Author.Rules.{rules}
 use Rattle.registers.proofs.write.Goals as goal
 
 pub returns : goal.returns

@@ -6,7 +6,6 @@ use Rattle.rules.specs.declared.Refusal.TheVariants as Refusal
 use borrow.Author.Tests.{not-true, not-false}
 use mathlib.Core.Path.{sym, ◌∙◌}
 use mathlib.Core.Bool.{false≢true}
-use borrow.Author.Rules.{rules}
 use Rattle.registers.proofs.write_controller.Goals as goal
 
 pub returns-then-past_part : goal.returns-then-past_part

@@ -7,7 +7,6 @@ use Rattle.rules.specs.declared.Heard.TheVariants as Heard
 use Rattle.rules.specs.Registers.{dma_write}
 use Rattle.rules.specs.Carry.{lending}
 use Rattle.rules.specs.Calls.{levelled, or_nothing}
-use borrow.Author.Tests.{not-true, not-false}
 use lib.ListN.{length}
 use native.Mathlib.Omega.{arith}
 use mathlib.Core.Path.{refl, sym, ◌∙◌}

@@ -3,11 +3,9 @@ use Rattle.registers.proofs.Laws.{write-no, wrong_size, wrong_address, write_dma
 use Rattle.act.specs.Parts.{counted, tabled, ordered, whole}
 use Rattle.rules.specs.declared.Refusal.TheVariants as Refusal
 use Rattle.rules.specs.Registers.{block_of}
-use borrow.Author.Tests.{not-true, not-false}
 use native.Mathlib.Omega.{arith}
 use mathlib.Core.Path.{◌≡◌, refl, sym, ◌∙◌}
 use Prim.Native.Nat.{suc, ◌-◌}
-use borrow.Author.Rules.{rules}
 use Rattle.registers.proofs.write_in.Goals as goal
 
 pub returns-then-bad_size : goal.returns-then-bad_size

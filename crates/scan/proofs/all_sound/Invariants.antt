@@ -1,14 +1,10 @@
 -- `scan::all_sound_lem` meets its contract. The records' invariant: whether those that are left are sound decides. The bytes' invariant: the value is
-use Rattle.scan.proofs.Laws.{left_sound, any_device, zero_turn, first-left, some_here, none_left, all_left, head_damaged, value_damaged, record_sound, wide_ranged}
+use Rattle.scan.proofs.Laws.{left_sound}
 use Rattle.scan.specs.Heads.{scanning}
 use Rattle.rules.specs.TakeBack.{all_sound}
 use Rattle.rules.specs.Bytes.{number, part}
-use borrow.Author.Rules.{rules}
-use borrow.Author.Tests.{not-true, not-false}
 use lib.ListN.{drop}
-use native.Mathlib.Omega.{arith}
-use native.Mathlib.Nat.{add-zero}
-use mathlib.Core.Path.{◌≡◌, sym, ◌∙◌}
+use mathlib.Core.Path.{◌≡◌}
 use Prim.Native.Nat.{◌+◌, ◌-◌, ◌*◌, ◌≤◌, ◌<◌}
 use Rattle.scan.proofs.all_sound.Given as goal
 

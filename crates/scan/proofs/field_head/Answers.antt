@@ -1,6 +1,5 @@
 -- `scan::field_head` meets its contract: a wrong width, no such field, and neither. Assumes nothing.
 use Rattle.scan.proofs.HeadLaws.{field_width, field_none, field_wide}
-use borrow.Author.Rules.{rules}
 use Rattle.scan.proofs.field_head.Goals as goal
 
 pub returns-then-width-ne8 : goal.returns-then-width-ne8

@@ -1,9 +1,7 @@
 -- `scan::head_of` meets its contract: no mark, and each kind by itself. Assumes nothing.
-use borrow.Author.Tests.{not-true, not-false}
 use mathlib.Core.Path.{sym, ◌∙◌}
 use Rattle.scan.proofs.HeadLaws.{unmarked, in_window, in_table_lem, in_field, other_kind}
 use Rattle.scan.proofs.Laws.{mode_scanning, store_head}
-use borrow.Author.Rules.{rules}
 use Rattle.scan.proofs.head_of.Goals as goal
 
 pub returns-then-not-is_marked : goal.returns-then-not-is_marked

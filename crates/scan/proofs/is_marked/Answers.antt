@@ -1,7 +1,6 @@
 -- `scan::is_marked` meets its contract: the two bytes in turn. Assumes nothing.
 use borrow.Author.Tests.{eq-eqb, ne_eqb}
 use Rattle.scan.proofs.HeadLaws.{mark_is}
-use borrow.Author.Rules.{rules}
 use Rattle.scan.proofs.is_marked.Goals as goal
 
 pub returns-then-journal-at-ne74 : goal.returns-then-journal-at-ne74

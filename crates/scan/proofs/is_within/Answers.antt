@@ -1,5 +1,4 @@
 -- `scan::is_within` meets its contract: what is below a power of two has nothing above it. Assumes nothing.
-use borrow.Author.Rules.{rules}
 use Rattle.scan.proofs.Laws.{no_more}
 use Rattle.scan.proofs.is_within.Goals as goal
 

@@ -1,12 +1,10 @@
 -- `scan::table_head` meets its contract: a wrong width, a place outside, and neither. Assumes nothing.
-use borrow.Author.Tests.{not-true, not-false}
 use mathlib.Core.Path.{sym, ◌∙◌}
 use native.Mathlib.Omega.{arith}
 use Rattle.rules.specs.Act.{table}
 use Rattle.rules.proofs.Steps.{in_table_lem, past-table}
 use Rattle.scan.proofs.Laws.{table-holding}
 use Rattle.scan.proofs.HeadLaws.{legal-most, wrong-width, outside, wide}
-use borrow.Author.Rules.{rules}
 use Rattle.scan.proofs.table_head.Goals as goal
 
 pub returns-then-not-is_table_width : goal.returns-then-not-is_table_width

@@ -1,11 +1,9 @@
 -- `scan::window_head` meets its contract: a wrong width, a place outside, and neither. Assumes nothing.
-use borrow.Author.Tests.{not-true, not-false}
 use mathlib.Core.Path.{sym, ◌∙◌}
 use native.Mathlib.Omega.{arith}
 use Rattle.rules.specs.Act.{window}
 use Rattle.memory.proofs.Laws.{not_inside, inside}
 use Rattle.scan.proofs.HeadLaws.{legal-most, wrong-width, outside, wide}
-use borrow.Author.Rules.{rules}
 use Rattle.scan.proofs.window_head.Goals as goal
 
 pub returns-then-not-is_memory_width : goal.returns-then-not-is_memory_width

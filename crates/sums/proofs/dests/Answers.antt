@@ -1,5 +1,4 @@
 -- `sums::dests` meets its contract: bit 30. Assumes nothing.
-use Rattle.std.proofs.Common.{rules}
 use Rattle.rules.specs.Minor.{dest_offset}
 use Rattle.sums.proofs.dests.Goals as goal
 

@@ -1,6 +1,5 @@
 -- `sums::maps` meets its contract, by whether CR bit 7 is set. Assumes nothing.
-use Rattle.std.proofs.Common.{sym, ◌∙◌, rules}
-use borrow.Author.Tests.{not-true, not-false}
+use Rattle.std.proofs.Common.{sym, ◌∙◌}
 use Rattle.sums.proofs.maps.Goals as goal
 
 pub returns-then-not-has_bit : goal.returns-then-not-has_bit

@@ -1,5 +1,5 @@
 -- `sums::minor_bytes` meets its contract, by which address takes the offset. Assumes nothing.
-use Rattle.std.proofs.Common.{sym, ◌∙◌, rules}
+use Rattle.std.proofs.Common.{sym, ◌∙◌}
 use Rattle.sums.proofs.Laws.{bytes_source, bytes_dest, bytes_plain}
 use Rattle.sums.proofs.minor_bytes.Goals as goal
 

@@ -1,6 +1,4 @@
 -- `sums::moved_on` meets its contract, by whether the address takes the offset and the loop is the last. Assumes nothing.
-use Rattle.std.proofs.Common.{rules}
-use borrow.Author.Tests.{not-true, not-false}
 use Rattle.rules.specs.Minor.{minor_offset}
 use Rattle.sums.proofs.Laws.{offset_none, offset_last, offset_added}
 use Rattle.sums.proofs.moved_on.Goals as goal

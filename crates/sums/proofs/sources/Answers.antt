@@ -1,5 +1,4 @@
 -- `sums::sources` meets its contract: bit 31. Assumes nothing.
-use Rattle.std.proofs.Common.{rules}
 use Rattle.rules.specs.Minor.{source_offset}
 use Rattle.sums.proofs.sources.Goals as goal
 

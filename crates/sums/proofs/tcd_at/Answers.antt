@@ -1,5 +1,4 @@
 -- `sums::tcd_at` meets its contract, field by field. Assumes nothing.
-use Rattle.std.proofs.Common.{rules}
 use Rattle.sums.proofs.Laws.{tcd_read}
 use Rattle.sums.proofs.tcd_at.Goals as goal
 

@@ -1,16 +1,7 @@
 -- `turns::release` meets its contract. Assumes nothing.
 use Rattle.turns.proofs.Freeing.{release_again, release_end}
 use borrow.Author.Rules.{rules}
-use mathlib.Core.List.{List}
-use mathlib.Core.Path.{◌≡◌, refl}
-use Prim.Native.Nat.{ℕ, ◌-◌, ◌≤◌}
-use Rattle.rules.specs.Carry.{go, Lent}
-use Rattle.rules.specs.Run.{release}
-use Rattle.rules.specs.With.{with_busy}
-use Rattle.rules.specs.Fields.{holds}
-use Rattle.rules.specs.Scalars.{ERQ}
-use Rattle.rules.specs.State.{Device}
-use Rattle.act.specs.Does.{beside}
+use mathlib.Core.Path.{refl}
 use Rattle.turns.proofs.release.Goals as goal
 
 pub loop-ch-init : goal.loop-ch-init

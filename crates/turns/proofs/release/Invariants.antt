@@ -1,8 +1,6 @@
 -- `turns::release` meets its contract. Assumes nothing.
-use Rattle.turns.proofs.Freeing.{release_again, release_end}
-use borrow.Author.Rules.{rules}
 use mathlib.Core.List.{List}
-use mathlib.Core.Path.{◌≡◌, refl}
+use mathlib.Core.Path.{◌≡◌}
 use Prim.Native.Nat.{ℕ, ◌-◌, ◌≤◌}
 use Rattle.rules.specs.Carry.{go, Lent}
 use Rattle.rules.specs.Run.{release}

@@ -1,7 +1,5 @@
 -- `turns::release_one` meets its contract. Assumes nothing.
 use Rattle.turns.proofs.Freeing.{still_busy, freed_only, freed_too}
-use borrow.Author.Tests.{not-true, not-false}
-use borrow.Author.Rules.{rules}
 use Rattle.turns.proofs.release_one.Goals as goal
 
 pub returns-then-not-over : goal.returns-then-not-over

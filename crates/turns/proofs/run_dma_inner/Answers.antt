@@ -1,12 +1,9 @@
 -- `turns::run_dma_inner` meets its contract. Assumes nothing.
 use Rattle.turns.proofs.Turning.{turns_stop, turns_refused, turns_again, turns_out}
 use borrow.Author.Rules.{rules}
-use lib.ListN.{length}
-use mathlib.Core.Path.{◌≡◌, refl, ap}
-use Rattle.rules.specs.Carry.{go, lending}
-use Rattle.rules.specs.Run.{turns, run_turns}
-use Rattle.rules.specs.State.{Device}
-use Rattle.turns.specs.Turns.{turning}
+use mathlib.Core.Path.{refl, ap}
+use Rattle.rules.specs.Carry.{lending}
+use Rattle.rules.specs.Run.{run_turns}
 use Rattle.turns.proofs.run_dma_inner.Goals as goal
 
 pub loop-left-init : goal.loop-left-init

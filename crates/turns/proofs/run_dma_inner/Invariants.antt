@@ -1,8 +1,6 @@
 -- `turns::run_dma_inner` meets its contract. Assumes nothing.
-use Rattle.turns.proofs.Turning.{turns_stop, turns_refused, turns_again, turns_out}
-use borrow.Author.Rules.{rules}
 use lib.ListN.{length}
-use mathlib.Core.Path.{◌≡◌, refl, ap}
+use mathlib.Core.Path.{◌≡◌}
 use Rattle.rules.specs.Carry.{go, lending}
 use Rattle.rules.specs.Run.{turns, run_turns}
 use Rattle.rules.specs.State.{Device}

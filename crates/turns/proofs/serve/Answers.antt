@@ -1,8 +1,6 @@
 -- `turns::serve` meets its contract. Assumes nothing.
 use mathlib.Core.Path.{sym, ◌∙◌}
 use Rattle.turns.proofs.Turning.{serve-started, serve_none, serve-lined, serve_asked}
-use borrow.Author.Tests.{not-true, not-false}
-use borrow.Author.Rules.{rules}
 use Rattle.turns.proofs.serve.Goals as goal
 
 pub returns-then-has_bit : goal.returns-then-has_bit

@@ -1,6 +1,5 @@
 -- `turns::serve_line` meets its contract. Assumes nothing.
 use Rattle.turns.proofs.Turning.{sum_below, line_broken, line_served}
-use borrow.Author.Rules.{rules}
 use Rattle.turns.proofs.serve_line.Goals as goal
 
 pub paced-requires : goal.paced-requires

@@ -2,7 +2,6 @@
 use mathlib.Core.Path.{sym}
 use native.Mathlib.Omega.{arith}
 use lib.Seq.{length-take-le}
-use borrow.Author.Rules.{rules}
 use Rattle.unequal_sizes.proofs.Unequal.{unequal_short, unequal_unread, unequal_to, unequal_not, within_take}
 use Rattle.unequal_sizes.proofs.move_unequal.Goals as goal
 

@@ -1,14 +1,10 @@
 -- `unequal_sizes::read_bursts` meets its contract. The loop's invariant and measure are those of `read_sizes4`; a turn
 -- is the law of a size in units of 4. Assumes nothing.
-use mathlib.Core.List.{[]}
 use mathlib.Core.Path.{◌≡◌, refl, sym, ap}
 use Prim.Native.Nat.{ℕ, ◌+◌, ◌*◌}
 use native.Mathlib.Omega.{arith}
-use lib.ListN.{length, take}
-use borrow.Author.Rules.{rules}
-use borrow.Author.Tests.{not-true, not-false}
-use Rattle.rules.specs.Minor.{read_sizes}
-use Rattle.unequal_sizes.proofs.Reading.{Rests, read_on_lem, read_off, read_bursts_on, read_sizes_end}
+use lib.ListN.{take}
+use Rattle.unequal_sizes.proofs.Reading.{read_on_lem, read_off, read_bursts_on, read_sizes_end}
 use Rattle.unequal_sizes.proofs.Unequal.{fewer}
 use Rattle.unequal_sizes.specs.Stages.{read_to}
 use Rattle.unequal_sizes.proofs.read_bursts.Goals as goal

@@ -1,15 +1,10 @@
 -- `unequal_sizes::read_bursts` meets its contract. The loop's invariant and measure are those of `read_sizes4`; a turn
 use mathlib.Core.List.{[]}
-use mathlib.Core.Path.{◌≡◌, refl, sym, ap}
-use Prim.Native.Nat.{ℕ, ◌+◌, ◌*◌}
-use native.Mathlib.Omega.{arith}
+use mathlib.Core.Path.{◌≡◌}
+use Prim.Native.Nat.{◌+◌, ◌*◌}
 use lib.ListN.{length, take}
-use borrow.Author.Rules.{rules}
-use borrow.Author.Tests.{not-true, not-false}
 use Rattle.rules.specs.Minor.{read_sizes}
-use Rattle.unequal_sizes.proofs.Reading.{Rests, read_on_lem, read_off, read_bursts_on, read_sizes_end}
-use Rattle.unequal_sizes.proofs.Unequal.{fewer}
-use Rattle.unequal_sizes.specs.Stages.{read_to}
+use Rattle.unequal_sizes.proofs.Reading.{Rests}
 use Rattle.unequal_sizes.proofs.read_bursts.Given as goal
 
 abbrev pub invariant-loop-left : goal.invariant-loop-left

@@ -1,15 +1,12 @@
 -- `unequal_sizes::read_sizes1` meets its contract. The loop's invariant: what is left to read, behind what was read, is
 -- the whole. The measure is the sizes that are left. A turn is the law of a size that is one unit, at 1. Assumes nothing.
-use mathlib.Core.List.{[]}
 use mathlib.Core.Path.{◌≡◌, refl, ap}
-use Prim.Native.Nat.{◌+◌, ◌*◌, ◌<◌, ◌^◌}
+use Prim.Native.Nat.{◌*◌}
 use native.Mathlib.Omega.{arith}
 use lib.Dec.{lit<, lit≤}
-use lib.ListN.{length, take}
+use lib.ListN.{take}
 use borrow.Author.Rules.{rules}
-use borrow.Author.Tests.{not-true, not-false}
-use Rattle.rules.specs.Minor.{read_sizes}
-use Rattle.unequal_sizes.proofs.Reading.{Rests, read_on_lem, read_off, read_single_on, read_sizes_end}
+use Rattle.unequal_sizes.proofs.Reading.{read_on_lem, read_off, read_single_on, read_sizes_end}
 use Rattle.unequal_sizes.specs.Stages.{read_to}
 use Rattle.unequal_sizes.proofs.read_sizes1.Goals as goal
 

@@ -1,14 +1,11 @@
 -- `unequal_sizes::read_units4` meets its contract. The loop's invariant: the units that are left, from number k on and
 -- behind what was read, are the whole. The measure is the units that are left. Assumes nothing.
 use mathlib.Core.Path.{◌≡◌, refl, ap}
-use Prim.Native.Nat.{◌+◌, ◌-◌, ◌*◌, ◌≤◌}
+use Prim.Native.Nat.{◌+◌, ◌*◌}
 use native.Mathlib.Nat.{sub-zero}
 use native.Mathlib.Omega.{arith}
-use lib.ListN.{length, take}
-use borrow.Author.Rules.{rules}
-use borrow.Author.Tests.{not-true, not-false}
-use Rattle.rules.specs.Minor.{read_units}
-use Rattle.unequal_sizes.proofs.Reading.{Rests, read_on_lem, read_off, none_read, reads_on, reads_end}
+use lib.ListN.{take}
+use Rattle.unequal_sizes.proofs.Reading.{read_on_lem, read_off, none_read, reads_on, reads_end}
 use Rattle.unequal_sizes.proofs.read_units4.Goals as goal
 
 pub loop-k-init : goal.loop-k-init

@@ -1,12 +1,8 @@
 -- `unequal_sizes::write_bursts` meets its contract. The loop's invariant and measure are those of `write_sizes4`; a turn
 -- is the law of a size in units of 4. Assumes nothing.
-use mathlib.Core.Path.{◌≡◌, refl}
-use Prim.Native.Nat.{◌+◌, ◌*◌}
+use mathlib.Core.Path.{refl}
 use native.Mathlib.Omega.{arith}
-use lib.ListN.{length}
-use borrow.Author.Rules.{rules}
-use Rattle.rules.specs.Minor.{write_sizes}
-use Rattle.act.proofs.Loops.{Remains, turn_on, turn-off}
+use Rattle.act.proofs.Loops.{turn_on, turn-off}
 use Rattle.unequal_sizes.proofs.Unequal.{fewer}
 use Rattle.unequal_sizes.proofs.Writing.{write_bursts_on, write_sizes_end}
 use Rattle.unequal_sizes.specs.Stages.{wrote}

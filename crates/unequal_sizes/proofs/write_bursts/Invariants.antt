@@ -1,14 +1,9 @@
 -- `unequal_sizes::write_bursts` meets its contract. The loop's invariant and measure are those of `write_sizes4`; a turn
-use mathlib.Core.Path.{◌≡◌, refl}
+use mathlib.Core.Path.{◌≡◌}
 use Prim.Native.Nat.{◌+◌, ◌*◌}
-use native.Mathlib.Omega.{arith}
 use lib.ListN.{length}
-use borrow.Author.Rules.{rules}
 use Rattle.rules.specs.Minor.{write_sizes}
-use Rattle.act.proofs.Loops.{Remains, turn_on, turn-off}
-use Rattle.unequal_sizes.proofs.Unequal.{fewer}
-use Rattle.unequal_sizes.proofs.Writing.{write_bursts_on, write_sizes_end}
-use Rattle.unequal_sizes.specs.Stages.{wrote}
+use Rattle.act.proofs.Loops.{Remains}
 use Rattle.unequal_sizes.proofs.write_bursts.Given as goal
 
 abbrev pub invariant-loop-left : goal.invariant-loop-left

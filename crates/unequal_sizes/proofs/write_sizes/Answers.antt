@@ -1,5 +1,4 @@
 -- `unequal_sizes::write_sizes` meets its contract, by the size. Assumes nothing.
-use borrow.Author.Rules.{rules}
 use Rattle.equal_sizes.proofs.Laws.{bursting}
 use Rattle.unequal_sizes.proofs.Unequal.{whole-units}
 use Rattle.unequal_sizes.proofs.write_sizes.Goals as goal

@@ -1,14 +1,9 @@
 -- `unequal_sizes::write_sizes2` meets its contract. The loop's invariant: what is left to write from here is the whole
-use mathlib.Core.Path.{◌≡◌, refl}
+use mathlib.Core.Path.{◌≡◌}
 use Prim.Native.Nat.{◌+◌, ◌*◌, ◌<◌, ◌^◌}
-use native.Mathlib.Omega.{arith}
-use lib.Dec.{lit<, lit≤}
 use lib.ListN.{length}
-use borrow.Author.Rules.{rules}
 use Rattle.rules.specs.Minor.{write_sizes}
-use Rattle.act.proofs.Loops.{Remains, turn_on, turn-off}
-use Rattle.unequal_sizes.proofs.Writing.{write_single_on, write_sizes_end}
-use Rattle.unequal_sizes.specs.Stages.{wrote}
+use Rattle.act.proofs.Loops.{Remains}
 use Rattle.unequal_sizes.proofs.write_sizes2.Given as goal
 
 abbrev pub invariant-loop-left : goal.invariant-loop-left

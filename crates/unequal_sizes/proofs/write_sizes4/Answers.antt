@@ -1,13 +1,10 @@
 -- `unequal_sizes::write_sizes4` meets its contract. The loop's invariant: what is left to write from here is the whole
 -- from the start. The measure is the sizes that are left. A turn is the law of a size that is one unit, at 4. Assumes nothing.
-use mathlib.Core.Path.{◌≡◌, refl}
-use Prim.Native.Nat.{◌+◌, ◌*◌, ◌<◌, ◌^◌}
+use mathlib.Core.Path.{refl}
 use native.Mathlib.Omega.{arith}
 use lib.Dec.{lit<, lit≤}
-use lib.ListN.{length}
 use borrow.Author.Rules.{rules}
-use Rattle.rules.specs.Minor.{write_sizes}
-use Rattle.act.proofs.Loops.{Remains, turn_on, turn-off}
+use Rattle.act.proofs.Loops.{turn_on, turn-off}
 use Rattle.unequal_sizes.proofs.Writing.{write_single_on, write_sizes_end}
 use Rattle.unequal_sizes.specs.Stages.{wrote}
 use Rattle.unequal_sizes.proofs.write_sizes4.Goals as goal

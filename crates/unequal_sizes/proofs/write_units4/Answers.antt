@@ -1,13 +1,9 @@
 -- `unequal_sizes::write_units4` meets its contract. The loop's invariant: the units that are left, from number k on, are
 -- the whole from the start. The measure is the units that are left. Assumes nothing.
-use mathlib.Core.Path.{◌≡◌, refl}
-use Prim.Native.Nat.{◌-◌, ◌≤◌}
+use mathlib.Core.Path.{refl}
 use native.Mathlib.Nat.{sub-zero}
 use native.Mathlib.Omega.{arith}
-use lib.ListN.{length}
-use borrow.Author.Rules.{rules}
-use Rattle.rules.specs.Minor.{write_units}
-use Rattle.act.proofs.Loops.{Remains, turn_on, turn-off}
+use Rattle.act.proofs.Loops.{turn_on, turn-off}
 use Rattle.act.specs.Worlds.{walked}
 use Rattle.unequal_sizes.proofs.Writing.{writes-on, writes_end}
 use Rattle.unequal_sizes.proofs.write_units4.Goals as goal

@@ -1,7 +1,6 @@
 -- `words::clear` meets its contract. The loop's invariant: behind the bytes that are left all is zero up to `to`. Assumes nothing.
 use Rattle.words.proofs.Wide.{zeros_none, zeros_turn, zeros_all}
-use Rattle.std.proofs.Common.{◌≡◌, ◌+◌, ◌-◌, ◌≤◌, length, replicate, refl, arith, length-set}
-use Rattle.rules.specs.Bytes.{splice}
+use Rattle.std.proofs.Common.{refl, arith, length-set}
 use Rattle.words.proofs.clear.Goals as goal
 
 pub overflow_sub-left : goal.overflow_sub-left

@@ -1,6 +1,5 @@
 -- `words::clear` meets its contract. The loop's invariant: behind the bytes that are left all is zero up to `to`. Assumes nothing.
-use Rattle.words.proofs.Wide.{zeros_none, zeros_turn, zeros_all}
-use Rattle.std.proofs.Common.{◌≡◌, ◌+◌, ◌-◌, ◌≤◌, length, replicate, refl, arith, length-set}
+use Rattle.std.proofs.Common.{◌≡◌, ◌+◌, ◌-◌, ◌≤◌, length, replicate}
 use Rattle.rules.specs.Bytes.{splice}
 use Rattle.words.proofs.clear.Given as goal
 

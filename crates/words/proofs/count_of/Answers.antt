@@ -1,5 +1,5 @@
 -- `words::count_of` meets its contract, by what `is_linked` answers. Assumes nothing.
-use Rattle.std.proofs.Common.{sym, ◌∙◌, rules}
+use Rattle.std.proofs.Common.{sym, ◌∙◌}
 use Rattle.words.proofs.count_of.Goals as goal
 
 pub returns-then-is_linked : goal.returns-then-is_linked

@@ -1,5 +1,4 @@
 -- `words::gain_bit` meets its contract: a shifted one is the bit's power. Assumes nothing.
-use Rattle.std.proofs.Common.{rules}
 use Rattle.rules.proofs.Powers.{one_shl}
 use Rattle.rules.specs.Words.{gain}
 use Rattle.words.proofs.gain_bit.Goals as goal

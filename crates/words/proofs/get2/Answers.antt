@@ -1,5 +1,4 @@
 -- `words::get2` meets its contract: the number with the lowest byte first, swapped. Assumes nothing.
-use Rattle.std.proofs.Common.{rules}
 use Rattle.words.proofs.Swap.{get_swapped}
 use Rattle.words.proofs.get2.Goals as goal
 

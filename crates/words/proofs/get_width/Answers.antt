@@ -1,6 +1,6 @@
 -- `words::get_width` meets its contract: each arm is the number of its width. Assumes nothing.
 use Rattle.words.proofs.Wide.{eight}
-use Rattle.std.proofs.Common.{arith, rules}
+use Rattle.std.proofs.Common.{arith}
 use Rattle.words.proofs.get_width.Goals as goal
 
 pub get8-requires : goal.get8-requires

@@ -1,5 +1,5 @@
 -- `words::highest_bit` meets its contract: a mask that is not 0 has at most 63 zeros above its highest bit. Assumes nothing.
-use Rattle.std.proofs.Common.{refl, arith, rules}
+use Rattle.std.proofs.Common.{refl, arith}
 use Rattle.words.specs.Highest.{highest}
 use Rattle.words.proofs.Highest.{highest_is, highest_lt}
 use Rattle.words.proofs.highest_bit.Goals as goal

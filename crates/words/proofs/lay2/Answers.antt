@@ -1,5 +1,4 @@
 -- `words::lay2` meets its contract: two bytes, laid side by side, are a number of two. A byte the other way round is itself. Assumes nothing.
-use Rattle.std.proofs.Common.{rules}
 use Rattle.rules.specs.Bytes.{bytes}
 use Rattle.words.proofs.Swap.{lay_two}
 use Rattle.words.proofs.lay2.Goals as goal

@@ -1,5 +1,4 @@
 -- `words::lay4` meets its contract: two numbers of half the width, laid side by side, are one. Assumes nothing.
-use Rattle.std.proofs.Common.{rules}
 use Rattle.words.proofs.Swap.{lay_two}
 use Rattle.words.proofs.lay4.Goals as goal
 

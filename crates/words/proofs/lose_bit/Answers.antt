@@ -1,5 +1,5 @@
 -- `words::lose_bit` meets its contract: a shifted one is the bit's power. Assumes nothing.
-use Rattle.std.proofs.Common.{◌∙◌, rules}
+use Rattle.std.proofs.Common.{◌∙◌}
 use Rattle.rules.proofs.Powers.{one_shl}
 use Rattle.rules.specs.Words.{lose, without}
 use Rattle.words.proofs.lose_bit.Goals as goal

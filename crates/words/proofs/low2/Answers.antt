@@ -1,5 +1,4 @@
 -- `words::low2` meets its contract: two bytes are a number of two. A byte the other way round is itself. Assumes nothing.
-use Rattle.std.proofs.Common.{rules}
 use Rattle.rules.specs.Bytes.{part}
 use Rattle.words.proofs.Swap.{low_two}
 use Rattle.words.proofs.low2.Goals as goal

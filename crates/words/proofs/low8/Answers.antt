@@ -1,5 +1,4 @@
 -- `words::low8` meets its contract: two numbers of half the width are one. Assumes nothing.
-use Rattle.std.proofs.Common.{rules}
 use Rattle.words.proofs.Swap.{low_two}
 use Rattle.words.proofs.low8.Goals as goal
 

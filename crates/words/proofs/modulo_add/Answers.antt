@@ -1,5 +1,5 @@
 -- `words::modulo_add` meets its contract: the mask is that of the low bits. Assumes nothing.
-use Rattle.std.proofs.Common.{◌∙◌, rules}
+use Rattle.std.proofs.Common.{◌∙◌}
 use Rattle.rules.proofs.Powers.{shl_pos}
 use Rattle.words.proofs.Laws.{modulo_none, modulo_some}
 use Rattle.words.proofs.modulo_add.Goals as goal

@@ -1,5 +1,5 @@
 -- `words::put1` meets its contract: a byte is the bytes of a number below 256. Assumes nothing.
-use Rattle.std.proofs.Common.{◌≡◌, ◌/◌, ◌%◌, arith, rules}
+use Rattle.std.proofs.Common.{◌≡◌, ◌/◌, ◌%◌, arith}
 use Rattle.rules.specs.Bytes.{bytes, splice}
 use Rattle.words.proofs.put1.Goals as goal
 

@@ -1,5 +1,4 @@
 -- `words::put4` meets its contract: swapped, and laid down with the lowest byte first. Assumes nothing.
-use Rattle.std.proofs.Common.{rules}
 use Rattle.words.proofs.Swap.{put_swapped}
 use Rattle.words.proofs.put4.Goals as goal
 

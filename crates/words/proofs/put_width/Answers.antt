@@ -1,6 +1,6 @@
 -- `words::put_width` meets its contract: each arm lays down the low bytes of its width. Assumes nothing.
 use Rattle.words.proofs.Wide.{eight, put_low}
-use Rattle.std.proofs.Common.{arith, rules}
+use Rattle.std.proofs.Common.{arith}
 use Rattle.words.proofs.put_width.Goals as goal
 
 pub put8-requires : goal.put8-requires

@@ -1,5 +1,5 @@
 -- `words::recounted` meets its contract, by what `is_linked` answers; the lower count fits into its 9 bits. Assumes nothing.
-use Rattle.std.proofs.Common.{◌%◌, ◌<◌, sym, ◌∙◌, arith, rules}
+use Rattle.std.proofs.Common.{◌%◌, ◌<◌, sym, ◌∙◌, arith}
 use Rattle.words.proofs.recounted.Goals as goal
 
 pub overflow_add-result : goal.overflow_add-result

@@ -1,5 +1,5 @@
 -- `words::signed16` meets its contract, by the law of signed numbers at 16 bits. Assumes nothing.
-use Rattle.std.proofs.Common.{arith, rules}
+use Rattle.std.proofs.Common.{arith}
 use Rattle.words.proofs.Laws.{signed_low, signed_high}
 use Rattle.words.proofs.signed16.Goals as goal
 

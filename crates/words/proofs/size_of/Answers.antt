@@ -1,5 +1,5 @@
 -- `words::size_of` meets its contract: the table's entry at the code. Assumes nothing.
-use Rattle.std.proofs.Common.{◌%◌, arith, rules}
+use Rattle.std.proofs.Common.{◌%◌, arith}
 use Rattle.rules.specs.Words.{size_of}
 use Rattle.words.proofs.Laws.{size_entry}
 use Rattle.words.proofs.size_of.Goals as goal

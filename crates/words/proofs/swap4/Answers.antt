@@ -1,5 +1,5 @@
 -- `words::swap4` meets its contract: each byte at its place; above the highest there is nothing. Assumes nothing.
-use Rattle.std.proofs.Common.{◌≡◌, ◌/◌, ◌%◌, add-zero, add_assoc, mod-eq_of_lt, mul-one, div-one, arith, rules}
+use Rattle.std.proofs.Common.{◌≡◌, ◌/◌, ◌%◌, add-zero, add_assoc, mod-eq_of_lt, mul-one, div-one, arith}
 use Rattle.rules.specs.Bytes.{bytes, number}
 use Rattle.words.proofs.swap4.Goals as goal
 

@@ -1,5 +1,4 @@
 -- `words::swap8` meets its contract: two swapped halves that change places. Assumes nothing.
-use Rattle.std.proofs.Common.{rules}
 use Rattle.words.proofs.Swap.{swap_two}
 use Rattle.words.proofs.swap8.Goals as goal
 

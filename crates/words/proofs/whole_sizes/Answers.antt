@@ -1,5 +1,5 @@
 -- `words::whole_sizes` meets its contract: the bounds that it requires keep the sum and the product in range. Assumes nothing.
-use Rattle.std.proofs.Common.{refl, arith, rules}
+use Rattle.std.proofs.Common.{refl, arith}
 use Rattle.rules.specs.Words.{wholes}
 use Rattle.words.proofs.Laws.{wholes_fit}
 use Rattle.words.proofs.whole_sizes.Goals as goal
