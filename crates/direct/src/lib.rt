@@ -1,7 +1,7 @@
 // Entries for C and Rust over a device that the caller holds in memory: a register access or a run costs its own work, and no packing.
 // Each takes the device behind a reference. An act copies its core, is lent those of its arrays that it reads or changes, where they lie, and stores
-// numbers and controllers when it comes back; the others copy the device. The contract is that of the call. A function over a reference to a struct is
-// proved by a walk by hand: so each of these is one call, some stores and one number.
+// numbers and controllers when it comes back; the others copy the device. The contract is that of the call. Each of these is one call, some stores and
+// one number.
 #![tactic(auto)]
 
 ghost use Rattle.std.specs.Prelude.{[], ◌≡◌, ◌%◌, ◌^◌};
