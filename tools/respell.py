@@ -99,7 +99,9 @@ def main():
         return text
 
     def turn_lemmas(text):
-        return loose.sub(lambda m: turned[m.group(0)] if m.group(0) in plain else m.group(0), text)
+        # (in a comment such a word may be meant as a word)
+        lines = text.split("\n")
+        return "\n".join(l if l.lstrip().startswith("--") else loose.sub(lambda m: turned[m.group(0)] if m.group(0) in plain else m.group(0), l) for l in lines)
 
     for f, t in texts.items():
         # the names of a proof's steps come from the source: there only capitals are turned

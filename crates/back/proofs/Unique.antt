@@ -1,4 +1,4 @@
--- The contract of `take_back_lem` fixes its outcome, at the same arguments: two outcomes that satisfy it are equal but for those bits of priorities that
+-- The contract of `take_back` fixes its outcome, at the same arguments: two outcomes that satisfy it are equal but for those bits of priorities that
 -- count for nothing, and a refused call's device is the one given, with these too. Assumes nothing.
 use mathlib.Core.List.{List, []}
 use mathlib.Core.Path.{◌≡◌, sym, ◌∙◌}

@@ -175,7 +175,7 @@ length_group g = length-append (lines_of g) (end_line (length g)) ∙ ap₂ (λ 
 
 -- ---- the call
 
--- what a take_back_lem of the group g leads to: the group undone, the journal used as before it, zeros in its place
+-- what a take-back of the group g leads to: the group undone, the journal used as before it, zeros in its place
 abbrev pub taken_back : ℕ → World → List Rec → List ℕ → World
 taken_back base u g before = record { now = undo base g u.now; used = before; free = replicate (length (group_bytes g)) 0 ++ u.free }
 

@@ -2,7 +2,7 @@
 use mathlib.Core.Path.{◌≡◌, refl, sym, ap, ◌∙◌}
 use mathlib.Core.List.{List, [], ◌∷◌, ◌++◌}
 use Prim.Native.Nat.{ℕ, zero, suc, ◌+◌, ◌*◌, ◌/◌, ◌%◌, ◌^◌, ◌≤◌, ◌<◌}
-use native.Mathlib.Nat.{div-div-eq-div-mul, add-zero, add-suc, suc-add, zero-add, pow-succ', mod-eq_of_lt, mod-lt, one-le-pow, zero-lt-suc, mod-one, add-mul-div_right, add-mul-mod_self_right, mul_assoc, add-mul, add_assoc, add_comm, lt_of_lt_of_le, pow-le-pow_right}
+use native.Mathlib.Nat.{div-div-eq-div-mul, add-zero, add-suc, suc-add, zero-add, pow-succ', mod-eq_of_lt, mod-lt, one-le-pow, zero-lt-suc, mod-one, div-add-mod', add-mul-div_right, add-mul-mod_self_right, mul_assoc, add-mul, add_assoc, add_comm, lt_of_lt_of_le, pow-le-pow_right}
 use native.Mathlib.Omega.{arith}
 use lib.ListN.{length, get_or, set, length-set, length-append}
 use lib.Seq.{set-set, set-get_or, set_comm, get_or-set_same, get_or-set_other, get_or-append-add}
@@ -247,6 +247,26 @@ bytes_join (suc n) m x y h =
         ap (λ (p : ℕ). (x * 256 ^ m + y) / p % 256) (ap (λ (k : ℕ). 256 ^ k) (add_comm n m) ∙ pow-add 256 m n)
         ∙ ap (λ (q : ℕ). q % 256) (sym (div-div-eq-div-mul (x * 256 ^ m + y) (256 ^ m) (256 ^ n)))
         ∙ ap (λ (q : ℕ). q / 256 ^ n % 256) (digits_div x h)
+
+-- a number of w + w bytes is read as two of w, the high one first
+pub number_two : (w : ℕ) (xs : List ℕ) (at : ℕ) {high low : ℕ}
+    → high ≡ number (part xs at w) → low ≡ number (part xs (at + w) w) → high * 256 ^ w + low ≡ number (part xs at (w + w))
+number_two w xs at h l =
+    rw (part_append xs at w w, number_append (part xs at w) (part xs (at + w) w), length_part xs (at + w) w, h, l)
+
+-- and laid down as two of w
+pub splice_two : (w : ℕ) (xs : List ℕ) (at v : ℕ) {ys zs : List ℕ}
+    → ys ≡ splice xs at (bytes w (v / 256 ^ w)) → zs ≡ splice ys (at + w) (bytes w (v % 256 ^ w)) → zs ≡ splice xs at (bytes (w + w) v)
+splice_two w xs at v y z =
+    let high : List ℕ = bytes w (v / 256 ^ w) in
+    let low : List ℕ = bytes w (v % 256 ^ w) in
+    let long : length high ≡ w = length_bytes w (v / 256 ^ w) in
+    z
+    ∙ ap (λ (l : List ℕ). splice l (at + w) low) y
+    ∙ splice_comm xs at high (at + w) low (omega (arith, long))
+    ∙ ap (λ (k : ℕ). splice (splice xs (at + k) low) at high) (sym long)
+    ∙ sym (splice_append xs at high low)
+    ∙ ap (splice xs at) (sym (bytes_join w w (v / 256 ^ w) (v % 256 ^ w) (mod-lt v (pow_pos w))) ∙ ap (bytes (w + w)) (div-add-mod' v (256 ^ w)))
 
 pub word_44 : (a b : ℕ) → b < 2 ^ 32 → bytes 8 (a * 4294967296 + b) ≡ bytes 4 a ++ bytes 4 b
 word_44 a b h = bytes_join 4 4 a b h

@@ -68,7 +68,7 @@ module _ {A : Type 0} (base : ℕ) (c : Call A) where
       checked none e = accepted base u g small c.lent c.act a v e
       checked (some k) e = let z : ◌≡◌ {A = ℕ} 0 1 = cc in absurd (omega arith)
 
--- a take_back_lem that is always refused
+-- a take-back that is always refused
 abbrev pub refuses_with : ℕ → World → After (Unit {0}) World
 refuses_with n u = unmade n u
 
@@ -76,7 +76,7 @@ module _ {A C : Type 0} (call_of : C → Call A) (base : ℕ) where
   abbrev pub make : C → World → After A World
   make c u = make_call base (call_of c) u
 
-  -- a window that no call takes (refusal 5): no take_back_lem is ever made, and every call made stands
+  -- a window that no call takes (refusal 5): no take-back is ever made, and every call made stands
   pub never_back : (n : ℕ) (start : World) (row : List (Entry C))
       → let s = walk make (refuses_with n) start row in (w : World) × Alone make start s.standing w × (seen s.here ≡ seen w)
   never_back n start row =
@@ -115,7 +115,7 @@ module _ {A C : Type 0} (call_of : C → Call A) (base : ℕ) where
       total_is : total w ≡ total start
       way : Way os (seen w)
 
-    -- a take_back_lem leads to the nearest
+    -- a take-back leads to the nearest
     back_led : (o : Seen) (os : List Seen) (w : World) → Leads (o ∷ os) w → (w' : World) × (take_back base w ≡ made tt w') × (seen w' ≡ o) × Leads os w'
     unfolding Way
     back_led o os w h =
@@ -183,7 +183,7 @@ module _ {A C : Type 0} (call_of : C → Call A) (base : ℕ) where
     pub standing-alone : (row : List (Entry C)) → let s = walk make (take_back base) start row in (w : World) × Alone make start s.standing w × (seen s.here ≡ seen w)
     standing-alone row = history make (take_back base) seen Leads start laws row
 
-    -- where one stands, a take_back_lem undoes the last
+    -- where one stands, a take-back undoes the last
     pub undoes_last : (row : List (Entry C)) (c : C × A) (cs : List (C × A)) → let s = walk make (take_back base) start row in s.standing ≡ c ∷ cs
         → (w u : World) × (take_back base s.here ≡ made tt w) × Alone make start cs u × (seen w ≡ seen u)
     undoes_last row c cs e =

@@ -1,4 +1,4 @@
--- `back::take_back_lem` meets its contract: each refusal in turn, and the group undone and its bytes zeroed. Assumes nothing.
+-- `back::take_back` meets its contract: each refusal in turn, and the group undone and its bytes zeroed. Assumes nothing.
 use mathlib.Core.Path.{sym, ◌∙◌}
 use native.Mathlib.Omega.{arith}
 use lib.Seq.{length-take-le}

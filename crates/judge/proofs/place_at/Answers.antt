@@ -1,4 +1,4 @@
--- `judge::place_at_lem` meets its contract. Assumes nothing.
+-- `judge::place_at` meets its contract. Assumes nothing.
 use Rattle.judge.specs.Walks.{place_at}
 use Rattle.std.proofs.Common.{refl, arith}
 use Rattle.judge.proofs.place_at.Goals as goal

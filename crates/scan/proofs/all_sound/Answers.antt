@@ -1,4 +1,4 @@
--- `scan::all_sound_lem` meets its contract. The records' invariant: whether those that are left are sound decides. The bytes' invariant: the value is
+-- `scan::all_sound` meets its contract. The records' invariant: whether those that are left are sound decides. The bytes' invariant: the value is
 -- the number that its bytes from the next on spell. Assumes nothing.
 use Rattle.scan.proofs.Laws.{any_device, zero_turn, first-left, some_here, none_left, all_left, head_damaged, value_damaged, record_sound, wide_ranged}
 use Rattle.scan.specs.Heads.{scanning}

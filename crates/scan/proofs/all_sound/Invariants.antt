@@ -1,4 +1,4 @@
--- `scan::all_sound_lem` meets its contract. The records' invariant: whether those that are left are sound decides. The bytes' invariant: the value is
+-- `scan::all_sound` meets its contract. The records' invariant: whether those that are left are sound decides. The bytes' invariant: the value is
 use Rattle.scan.proofs.Laws.{left_sound}
 use Rattle.scan.specs.Heads.{scanning}
 use Rattle.rules.specs.TakeBack.{all_sound}
