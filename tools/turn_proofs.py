@@ -145,10 +145,6 @@ class Function:
         return CHAIN.sub(one, text)
 
 
-def own_facts(text):
-    return text
-
-
 def turn(crate, folder, data, module):
     text = open(folder + "/Proof.antt", encoding="utf-8").read()
     if ".Tie as tie" not in text:
@@ -158,7 +154,6 @@ def turn(crate, folder, data, module):
     uses = [l for l in head if l.startswith("use ") and ".Statement.{" not in l and not l.endswith(".Tie as tie")]
     comments = [l for l in head if l.startswith("--")]
     needs = data["needs"]
-    body = {}
     spec_args = None
     answers, invariants, helpers = [], [], []
     old_needs = []
