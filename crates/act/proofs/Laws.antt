@@ -1,5 +1,8 @@
 -- The laws by which the engine's functions are proved against their trees: one after another, choices, reads, changed scalars, and stores
 -- with their records, each over plain variables. Assumes nothing.
+use Rattle.std.specs.Prelude.{Result, Ok, Err}
+use Rattle.std.specs.Result.{IsErr, IsErrAnd}
+use Rattle.std.proofs.lemmas.Result.{err_from_is_err_and}
 use mathlib.Core.Bool.{Bool, true, false, cond}
 use mathlib.Core.List.{List, ◌++◌}
 use mathlib.Core.Path.{◌≡◌, refl, sym, ap, ◌∙◌}
@@ -23,12 +26,9 @@ use Rattle.rules.specs.declared.Tcd.{Tcd}
 use Rattle.rules.proofs.BytesLaws.{length_bytes}
 use Rattle.rules.proofs.Cut.{splice_cut}
 use Rattle.rules.proofs.Steps.{and_then, go_bind, go_then, in_table_lem, fetch-inside, store_does, store_refused, store-no_room}
-use Rattle.act.specs.Worlds.{world, came_to, walked, on}
+use Rattle.act.specs.Worlds.{Step, Walk, world, came_to, walked, on}
 use Rattle.act.specs.declared.Flow.{Flow}
-use Rattle.act.specs.declared.Step.{Step}
-use Rattle.act.specs.declared.Step.TheVariants.{Going, Refused}
-use Rattle.act.specs.declared.Walk.{Walk}
-use Rattle.act.specs.declared.Walk.TheVariants.{On, Off}
+use Rattle.act.specs.declared.Stopped.{Stopped}
 
 -- ---- one after another
 
@@ -55,13 +55,13 @@ module _ (base : ℕ) (lent : Lent) where
   on-nothing (no n u) = refl
 
   -- a refused step stays
-  pub stays : (m : Act (Unit {0})) {s : Step} {r : Refusal} {c : Flow} (d : Device) (w j t l : List ℕ) → s ≡ Refused r c
+  pub stays : (m : Act (Unit {0})) {s : Step} {e : Stopped Flow} (d : Device) (w j t l : List ℕ) → s ≡ Err e
       → came_to s d w j t l ≡ on base lent m (came_to s d w j t l)
   unfolding on came_to
   stays m d w j t l e = rw e
 
   -- whatever is to be done
-  pub stays_so : {A : Type 0} (x y : Act A) {s : Step} {r : Refusal} {c : Flow} (d : Device) (w j t l : List ℕ) → s ≡ Refused r c
+  pub stays_so : {A : Type 0} (x y : Act A) {s : Step} {e : Stopped Flow} (d : Device) (w j t l : List ℕ) → s ≡ Err e
       → on base lent x (came_to s d w j t l) ≡ on base lent y (came_to s d w j t l)
   unfolding on came_to
   stays_so x y d w j t l e = rw e
@@ -79,9 +79,9 @@ module _ (base : ℕ) (lent : Lent) where
   passed b m o e = rw (e, on-nothing o)
 
   -- the same of the step that a match came_to
-  pub skips : (d : Device) {s : Step} (c : Flow) (w j t l : List ℕ) → s ≡ Going c → (b : Bool) (m : Act (Unit {0})) → b ≡ false
-      → came_to (Going c) d w j t l ≡ on base lent (when b m) (came_to s d w j t l)
-  skips d c w j t l going b m e = rw going (passed b m (came_to (Going c) d w j t l) e)
+  pub skips : (d : Device) {s : Step} (c : Flow) (w j t l : List ℕ) → s ≡ Ok c → (b : Bool) (m : Act (Unit {0})) → b ≡ false
+      → came_to (Ok c) d w j t l ≡ on base lent (when b m) (came_to s d w j t l)
+  skips d c w j t l going b m e = rw going (passed b m (came_to (Ok c) d w j t l) e)
 
   -- and one that is not left out
   pub taken : (b : Bool) (m : Act (Unit {0})) {r : Out (Unit {0})} (o : Out (Unit {0})) → b ≡ true → r ≡ on base lent m o → r ≡ on base lent (when b m) o
@@ -101,8 +101,8 @@ module _ (base : ℕ) (lent : Lent) where
   pub fetched : (s : Step) (d : Device) (w j t l : List ℕ) {A : Type 0} (place n : ℕ) (k : List ℕ → Act A) → place + n ≤ length t
       → on base lent (fetch table place n >>= k) (came_to s d w j t l) ≡ on base lent (k (part t place n)) (came_to s d w j t l)
   unfolding on came_to fetch ◌>>=◌ Carry·fetched bytes_of index_of
-  fetched (Going c) d w j t l place n k h = fetch-inside base lent table place n k (world d c w j t l) (in_table_lem base place n (world d c w j t l).now h)
-  fetched (Refused r c) d w j t l place n k h = refl
+  fetched (Ok c) d w j t l place n k h = fetch-inside base lent table place n k (world d c w j t l) (in_table_lem base place n (world d c w j t l).now h)
+  fetched (Err e) d w j t l place n k h = refl
 
   -- a descriptor
   pub described : (s : Step) (d : Device) (w j t l : List ℕ) {A : Type 0} (ch : ℕ) (k : Tcd → Act A) {x : Tcd} → x ≡ tcd_of (part t (32 * ch) 32) → 32 * ch + 32 ≤ length t
@@ -112,9 +112,9 @@ module _ (base : ℕ) (lent : Lent) where
 
 -- ---- a scalar changed
 
-module _ (base : ℕ) (lent : Lent) (d : Device) {s : Step} (c : Flow) (w j t l : List ℕ) (going : s ≡ Going c) (g : ℕ → ℕ) where
+module _ (base : ℕ) (lent : Lent) (d : Device) {s : Step} (c : Flow) (w j t l : List ℕ) (going : s ≡ Ok c) (g : ℕ → ℕ) where
   pub scalar_changed : (i : ℕ) {v : ℕ} (n : Scalars) → view_scalars n ≡ set (view_scalars c.scalars) i v → v ≡ g (get_or (view_scalars c.scalars) i 0) → v < 2 ^ get_or scalar_bits i 64
-      → came_to (Going (record { scalars = n; at = c.at })) d w j t l ≡ on base lent (change (SCALAR i) g) (came_to s d w j t l)
+      → came_to (Ok (record { scalars = n; at = c.at })) d w j t l ≡ on base lent (change (SCALAR i) g) (came_to s d w j t l)
   unfolding came_to on go change bits_of with_device
   scalar_changed i n p e h = rw (going, p, ← e, mod-eq_of_lt h)
 
@@ -154,20 +154,20 @@ module _ (j : List ℕ) (at : ℕ) where
 
 -- ---- one store of the table, by cases
 
-module _ (base : ℕ) (lent : Lent) (d : Device) {s : Step} (c : Flow) (w j t l : List ℕ) (going : s ≡ Going c)
+module _ (base : ℕ) (lent : Lent) (d : Device) {s : Step} (c : Flow) (w j t l : List ℕ) (going : s ≡ Ok c)
     (place width value : ℕ) (fits : place + width ≤ length t) (fair : legal table width ≡ true)
   where
     here : there base table place width (world d c w j t l).now ≡ true
     here = in_table_lem base place width (world d c w j t l).now fits
 
-    pub table_full : length j < c.at + 16 → came_to (Refused Refusal.Room c) d w j t l ≡ on base lent (store table place width value) (came_to s d w j t l)
+    pub table_full : length j < c.at + 16 → came_to (Err (record { why = Refusal.Room; at = c })) d w j t l ≡ on base lent (store table place width value) (came_to s d w j t l)
     unfolding came_to on
     table_full h = rw going (sym (store-no_room base lent (world d c w j t l) table place width value here fair (no_room j c.at h)))
 
     pub table_done : c.at + 16 ≤ length j → {old : ℕ} {t' j' : List ℕ} {c' : Flow}
         → old ≡ number (part t place width) → t' ≡ splice t place (bytes width value) → j' ≡ splice j c.at (line 1 width place old)
         → c' ≡ record { scalars = c.scalars; at = c.at + 16 }
-        → came_to (Going c') d w j' t' l ≡ on base lent (store table place width value) (came_to s d w j t l)
+        → came_to (Ok c') d w j' t' l ≡ on base lent (store table place width value) (came_to s d w j t l)
     unfolding came_to on recorded stored with_bytes_of bytes_of index_of Carry·fetched line_of kind_of
     table_done h p q r e =
         let L : List ℕ = line 1 width place (number (part t place width)) in
@@ -178,18 +178,18 @@ module _ (base : ℕ) (lent : Lent) (d : Device) {s : Step} (c : Flow) (w j t l 
 -- ---- one store of the window, by cases
 
 module _ (base : ℕ) (lent : Lent) (d : Device) (w j : List ℕ) (e a width value : ℕ) where
-  pub window_outside : there base window a width (world_of d w j e).now ≡ false → walked (Off Refusal.Outside e) d w j ≡ go base lent (store window a width value) (world_of d w j e)
+  pub window_outside : there base window a width (world_of d w j e).now ≡ false → walked (Err (record { why = Refusal.Outside; at = e })) d w j ≡ go base lent (store window a width value) (world_of d w j e)
   unfolding walked
   window_outside h = sym (store_refused base lent (world_of d w j e) window a width value h)
 
   module _ (here : there base window a width (world_of d w j e).now ≡ true) (fair : legal window width ≡ true) where
-    pub window_full : length j < e + 16 → walked (Off Refusal.Room e) d w j ≡ go base lent (store window a width value) (world_of d w j e)
+    pub window_full : length j < e + 16 → walked (Err (record { why = Refusal.Room; at = e })) d w j ≡ go base lent (store window a width value) (world_of d w j e)
     unfolding walked
     window_full h = sym (store-no_room base lent (world_of d w j e) window a width value here fair (no_room j e h))
 
     pub window-done : e + 16 ≤ length j → {i old : ℕ} {w' j' : List ℕ}
         → i ≡ index_of base window a → old ≡ number (part w i width) → w' ≡ splice w i (bytes width value) → j' ≡ splice j e (line 0 width a old)
-        → walked (On (e + 16)) d w' j' ≡ go base lent (store window a width value) (world_of d w j e)
+        → walked (Ok (e + 16)) d w' j' ≡ go base lent (store window a width value) (world_of d w j e)
     unfolding walked recorded stored with_bytes_of bytes_of Carry·fetched line_of kind_of
     window-done h i-is p q r =
         let old : ℕ = number (part w (index_of base window a) width) in
@@ -208,10 +208,21 @@ module _ (base : ℕ) (lent : Lent) (d : Device) (w j : List ℕ) (e : ℕ) (x :
         ap (λ (o : Out (Unit {0})). and_then o (λ _. go base lent y)) (sym (ap (λ (o : Walk). walked o d w' j') h) ∙ did)
         ∙ sym (go_then base lent x y (world_of d w j e))
 
-    pub walk_on_lem : {e' : ℕ} → r ≡ On e' → go base lent y (world_of d w' j' e') ≡ go base lent (x >> y) (world_of d w j e)
+    pub walk_on_lem : {e' : ℕ} → r ≡ Ok e' → go base lent y (world_of d w' j' e') ≡ go base lent (x >> y) (world_of d w j e)
     unfolding walked and_then
     walk_on_lem h = after_walk h
 
-    pub walk_off : {n : Refusal} {e' : ℕ} → r ≡ Off n e' → no (refusal_number n) (world_of d w' j' e') ≡ go base lent (x >> y) (world_of d w j e)
+    pub walk_off : {stopped : Stopped ℕ} → r ≡ Err stopped → no (refusal_number stopped.why) (world_of d w' j' stopped.at) ≡ go base lent (x >> y) (world_of d w j e)
     unfolding walked and_then
     walk_off h = after_walk h
+
+-- ---- what `?` hands on
+
+-- of a step that was refused `?` makes the same step
+pub handed_on : {T E : Type 0} {e : E} {s : Result T E} (r : Result T E) → IsErr r × IsErrAnd r (λ y. y ≡ e) → s ≡ Err e → r ≡ s
+handed_on r gave was = let p = err_from_is_err_and r gave.1 in p.1 ∙ ap (λ y. Err y) p.2 ∙ sym was
+
+-- and nothing more happens to it
+pub stays_refused : (base : ℕ) (lent : Lent) (m : Act (Unit {0})) {s : Step} {e : Stopped Flow} (r : Step) (d : Device) (w j t l : List ℕ)
+    → IsErr r × IsErrAnd r (λ y. y ≡ e) → s ≡ Err e → came_to r d w j t l ≡ on base lent m (came_to s d w j t l)
+stays_refused base lent m r d w j t l gave was = rw (handed_on r gave was) (stays base lent m d w j t l was)

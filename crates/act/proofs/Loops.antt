@@ -1,5 +1,6 @@
 -- Loops: what is left to do from where a loop stands is the whole from where it began. A turn's walk takes the first act off what is left, or
 -- ends the whole with its refusal. Assumes nothing.
+use Rattle.std.specs.Prelude.{Ok, Err}
 use mathlib.Core.List.{List}
 use mathlib.Core.Path.{◌≡◌, ap, ◌∙◌}
 use Prim.Native.Nat.{ℕ}
@@ -7,10 +8,8 @@ use Rattle.rules.specs.Act.{Act, ◌>>◌}
 use Rattle.rules.specs.Calls.{world_of, refusal_number}
 use Rattle.rules.specs.Carry.{no, go, Lent}
 use Rattle.rules.specs.State.{Device}
-use Rattle.rules.specs.declared.Refusal.{Refusal}
-use Rattle.act.specs.Worlds.{Walks}
-use Rattle.act.specs.declared.Walk.{Walk}
-use Rattle.act.specs.declared.Walk.TheVariants.{On, Off}
+use Rattle.act.specs.Worlds.{Walk, Walks}
+use Rattle.act.specs.declared.Stopped.{Stopped}
 use Rattle.act.proofs.Laws.{walk_on_lem, walk_off}
 
 -- doing `left` here, at the journal's end e, is doing `whole` at the start, from the journal's end `at` on
@@ -24,9 +23,9 @@ module _ {A : Type 0} (base : ℕ) (whole : Act A) (at : ℕ) (w₀ j₀ : List 
     joined lent d = ap (λ (m : Act A). go base lent m (world_of d w j e)) turn ∙ rest lent d
 
     module _ (w' j' : List ℕ) {r : Walk} (did : Walks x base e r w w' j j') where
-      pub turn_on : {e' : ℕ} → r ≡ On e' → Remains base y e' w' j' whole at w₀ j₀
+      pub turn_on : {e' : ℕ} → r ≡ Ok e' → Remains base y e' w' j' whole at w₀ j₀
       turn_on h lent d = walk_on_lem base lent d w j e x y w' j' (did lent d) h ∙ joined lent d
 
-      pub turn-off : {n : Refusal} {e' : ℕ} → r ≡ Off n e' → (lent : Lent) (d : Device)
-          → no (refusal_number n) (world_of d w' j' e') ≡ go base lent whole (world_of d w₀ j₀ at)
+      pub turn-off : {stopped : Stopped ℕ} → r ≡ Err stopped → (lent : Lent) (d : Device)
+          → no (refusal_number stopped.why) (world_of d w' j' stopped.at) ≡ go base lent whole (world_of d w₀ j₀ at)
       turn-off h lent d = walk_off base lent d w j e x y w' j' (did lent d) h ∙ joined lent d

@@ -5,7 +5,7 @@ use Rattle.rules.specs.Calls.{Told, told, Asked, verdict_number, after}
 use Rattle.rules.specs.State.{Controller, Device}
 use Rattle.rules.specs.View.{view_controller, view}
 use Rattle.rules.specs.declared.Device.{Device as HeldDevice}
-use Rattle.rules.specs.declared.Heard.{Heard}
+use Rattle.rules.specs.Verdicts.{Heard}
 use Rattle.rules.proofs.Proper.{Proper}
 use Rattle.rules.proofs.ViewLaws.{no_held}
 use Rattle.act.specs.declared.Core.{Core}

@@ -1,6 +1,6 @@
 -- How the engine's values stand for a world of the rules, and what a function promises: that it does an act's steps, whatever the rest of
 -- the world is. Assumes nothing.
-use Rattle.std.specs.Prelude.{◌≡◌, List, ℕ}
+use Rattle.std.specs.Prelude.{◌≡◌, List, ℕ, Result, Ok, Err}
 use Rattle.rules.specs.Act.{Act, ◌>>=◌}
 use Rattle.rules.specs.Calls.{world_of, refusal_number}
 use Rattle.rules.specs.Carry.{World, Out, ok, no, go, Lent}
@@ -8,12 +8,17 @@ use Rattle.rules.specs.Scalars.{view_scalars}
 use Rattle.rules.specs.State.{Device}
 use Rattle.rules.specs.With.{with_scalars, with_table, with_majors}
 use Rattle.act.specs.declared.Flow.{Flow}
-use Rattle.act.specs.declared.Step.{Step}
-use Rattle.act.specs.declared.Step.TheVariants.{Going, Refused}
-use Rattle.act.specs.declared.Walk.{Walk}
-use Rattle.act.specs.declared.Walk.TheVariants.{On, Off}
+use Rattle.act.specs.declared.Stopped.{Stopped}
 
 -- ---- values and worlds
+
+-- still going, or refused: why, and how far it had come
+abbrev pub Step : Type 0
+Step = Result Flow (Stopped Flow)
+
+-- the same of a function that touches only window and journal
+abbrev pub Walk : Type 0
+Walk = Result ℕ (Stopped ℕ)
 
 -- the device d, but for what the engine holds apart: scalars, table, majors
 abbrev pub over : Device → Flow → List ℕ → List ℕ → Device
@@ -25,21 +30,21 @@ world d c w j t m = world_of (over d c t m) w j c.at
 
 -- where a step stands
 abbrev pub flow_of : Step → Flow
-flow_of (Going c) = c
-flow_of (Refused r c) = c
+flow_of (Ok c) = c
+flow_of (Err stopped) = stopped.at
 
 -- and, of it, the journal's end alone
 abbrev pub walk_of : Step → Walk
-walk_of (Going c) = On c.at
-walk_of (Refused r c) = Off r c.at
+walk_of (Ok c) = Ok c.at
+walk_of (Err stopped) = Err (record { why = stopped.why; at = stopped.at.at })
 
 unfoldable pub came_to : Step → Device → List ℕ → List ℕ → List ℕ → List ℕ → Out (Unit {0})
-came_to (Going c) d w j t m = ok tt (world d c w j t m)
-came_to (Refused r c) d w j t m = no (refusal_number r) (world d c w j t m)
+came_to (Ok c) d w j t m = ok tt (world d c w j t m)
+came_to (Err stopped) d w j t m = no (refusal_number stopped.why) (world d stopped.at w j t m)
 
 unfoldable pub walked : Walk → Device → List ℕ → List ℕ → Out (Unit {0})
-walked (On e) d w j = ok tt (world_of d w j e)
-walked (Off r e) d w j = no (refusal_number r) (world_of d w j e)
+walked (Ok e) d w j = ok tt (world_of d w j e)
+walked (Err stopped) d w j = no (refusal_number stopped.why) (world_of d w j stopped.at)
 
 -- on with m after what came before, unless that was refused
 unfoldable pub on : ℕ → Lent → {A : Type 0} → Act A → Out (Unit {0}) → Out A

@@ -16,29 +16,28 @@ pub struct Flow {
     pub at: usize,
 }
 
-// Still going, or refused: once refused, nothing more happens.
+// Why an act is refused, and how far it had come: once refused, nothing more happens.
 #[derive(Clone, Copy)]
-pub enum Step {
-    Going(Flow),
-    Refused(Refusal, Flow),
+pub struct Stopped<T> {
+    pub why: Refusal,
+    pub at: T,
 }
+
+// Still going, or refused.
+pub type Step = Result<Flow, Stopped<Flow>>;
 
 // Where the journal ends then.
 pub fn end_of(s: Step) -> usize
     ensures { result ≡ (flow_of s).at }
 {
     match s {
-        Step::Going(c) => c.at,
-        Step::Refused(_, c) => c.at,
+        Ok(c) => c.at,
+        Err(stopped) => stopped.at.at,
     }
 }
 
 // The same of a function that touches only window and journal: the journal's end.
-#[derive(Clone, Copy)]
-pub enum Walk {
-    On(usize),
-    Off(Refusal, usize),
-}
+pub type Walk = Result<usize, Stopped<usize>>;
 
 // ---- a device in parts
 

@@ -1,4 +1,5 @@
 -- How acts end, by cases. Assumes nothing.
+use Rattle.std.specs.Prelude.{Some, None, Ok, Err}
 use mathlib.Core.List.{List, ◌++◌}
 use mathlib.Core.Path.{◌≡◌, refl, sym, ap, ◌∙◌, subst}
 use Prim.Native.Nat.{ℕ, ◌≤◌, min}
@@ -11,9 +12,9 @@ use Rattle.rules.specs.Carry.{World, unmade, ok, no, cleared, changed, go, leave
 use Rattle.rules.specs.Fields.{fields_of}
 use Rattle.rules.specs.Lines.{relevel}
 use Rattle.rules.specs.State.{Device}
-use Rattle.rules.specs.declared.Heard.{Heard}
+use Rattle.rules.specs.Verdicts.{Heard}
 use Rattle.rules.specs.declared.Refusal.{Refusal}
-use Rattle.rules.specs.declared.Verdict.{Verdict}
+use Rattle.rules.specs.Verdicts.{Verdict}
 use Rattle.rules.proofs.Proper.{Proper}
 use Rattle.rules.proofs.Grown.{Longer, Grown, go_grows, journal_grows}
 use Rattle.rules.proofs.Keeps.{AtEnd}
@@ -25,13 +26,10 @@ use Rattle.act.specs.Worlds.{came_to}
 use Rattle.act.specs.declared.Core.{Core}
 use Rattle.act.specs.declared.Done.{Done}
 use Rattle.act.specs.declared.Flow.{Flow}
-use Rattle.act.specs.declared.Step.{Step}
-use Rattle.act.specs.declared.Step.TheVariants.{Going, Refused}
-use Rattle.act.specs.declared.Walk.{Walk}
-use Rattle.act.specs.declared.Walk.TheVariants.{On, Off}
+use Rattle.act.specs.Worlds.{Step}
+use Rattle.act.specs.Worlds.{Walk}
 use Rattle.closing.specs.Closes.{noting, add_all, add_end, Notes, Part, core_in, levels_in, closed, Closes}
-use Rattle.closing.specs.declared.Noted.{Noted}
-use Rattle.closing.specs.declared.Noted.TheVariants.{At, Full}
+use Rattle.closing.specs.Closes.{Noted}
 use Rattle.closing.proofs.Group.{group_closes, closes, all_full_so}
 use Rattle.closing.proofs.Parts.{same, same-part, same-busy, same-majors, same-pending, same_taken, all_noted}
 use Rattle.controllers.specs.Works.{Works}
@@ -55,13 +53,13 @@ module _ (base : ℕ) (lent : Lent) (act : Act (Unit {0})) (d : Device) (w j₀ 
     longer_on : Longer used at j₀ j
     longer_on = journal_grows d e w w' j₀ j used at fits (subst (AtEnd (Grown u)) went (go_grows base lent u act))
 
-    levelled-on : (e' : Device) → Does relevel e e' → perform base lent (levelled act) u ≡ leave u (ok Heard.Nothing (world_of e' w' j at))
+    levelled-on : (e' : Device) → Does relevel e e' → perform base lent (levelled act) u ≡ leave u (ok None (world_of e' w' j at))
     unfolding levelled Answers perform
     levelled-on e' h =
         ap (leave u)
-        (then_ok base lent act (relevel >> done Heard.Nothing) u went
-        ∙ then_ok base lent relevel (done Heard.Nothing) (world_of e w' j at) (h base lent w' (take at j) (drop at j))
-        ∙ go-done base lent Heard.Nothing (world_of e' w' j at))
+        (then_ok base lent act (relevel >> done None) u went
+        ∙ then_ok base lent relevel (done None) (world_of e w' j at) (h base lent w' (take at j) (drop at j))
+        ∙ go-done base lent None (world_of e' w' j at))
 
   -- the steps were refused
   module _ (n : ℕ) (e e' : Device) (at : ℕ) (went : go base lent act u ≡ no n (world_of e w' j at)) where
@@ -70,11 +68,11 @@ module _ (base : ℕ) (lent : Lent) (act : Act (Unit {0})) (d : Device) (w j₀ 
 
     levelled-off : perform base lent (levelled act) u ≡ leave u (no n (world_of e' w' j at))
     unfolding levelled perform leave
-    levelled-off = ap (leave u) (then_no base lent act (relevel >> done Heard.Nothing) u went)
+    levelled-off = ap (leave u) (then_no base lent act (relevel >> done None) u went)
 
   module _ (k : Core) (x : Arrays) where
-    pub settled_on : {s : Step} {c : Flow} {r : Core} → s ≡ Going c → ((y : Arrays) → Works relevel (record { scalars = c.scalars; controllers = k.controllers; ignore_masks = k.ignore_masks }) r y)
-        → came_to s (whole k x) w' j x.table x.majors ≡ go base lent act u → Settled k x s (record { walk = On c.at; core = r }) base lent act d w j₀ w' j used
+    pub settled_on : {s : Step} {c : Flow} {r : Core} → s ≡ Ok c → ((y : Arrays) → Works relevel (record { scalars = c.scalars; controllers = k.controllers; ignore_masks = k.ignore_masks }) r y)
+        → came_to s (whole k x) w' j x.table x.majors ≡ go base lent act u → Settled k x s (record { walk = Ok c.at; core = r }) base lent act d w j₀ w' j used
     unfolding came_to
     settled_on {c = c} {r = r} f works goes =
         let e = whole (record { scalars = c.scalars; controllers = k.controllers; ignore_masks = k.ignore_masks }) x in
@@ -89,8 +87,8 @@ module _ (base : ℕ) (lent : Lent) (act : Act (Unit {0})) (d : Device) (w j₀ 
           ends = rw f refl;
         }
 
-    pub settled_off : {s : Step} {why : Refusal} {c : Flow} → s ≡ Refused why c → came_to s (whole k x) w' j x.table x.majors ≡ go base lent act u
-        → Settled k x s (record { walk = Off why c.at; core = k }) base lent act d w j₀ w' j used
+    pub settled_off : {s : Step} {why : Refusal} {c : Flow} → s ≡ Err (record { why = why; at = c }) → came_to s (whole k x) w' j x.table x.majors ≡ go base lent act u
+        → Settled k x s (record { walk = Err (record { why = why; at = c.at }); core = k }) base lent act d w j₀ w' j used
     unfolding came_to
     settled_off {why = why} {c = c} f goes =
         let e = whole (record { scalars = c.scalars; controllers = k.controllers; ignore_masks = k.ignore_masks }) x in
@@ -114,7 +112,7 @@ module _ (k : Core) (x x' : Arrays) (h : Heard) (used : ℕ) (w j₀ w' j j₂ :
   began = world_of d w j₀ used
 
   module _ (e : Core) (at : ℕ) (later : used ≤ min at (length j)) {n : Noted}
-      (noted : noting n j₂ ≡ add_end used (add_all (changed 0 (fields_of d) (fields_of (whole e x'))) (noting (At at) j)))
+      (noted : noting n j₂ ≡ add_end used (add_all (changed 0 (fields_of d) (fields_of (whole e x'))) (noting (Some at) j)))
     where
       ends : Closes n (fields_of d) (fields_of (whole e x')) used at j j₂
       ends = group_closes _ _ used at j later noted
@@ -128,14 +126,14 @@ module _ (k : Core) (x x' : Arrays) (h : Heard) (used : ℕ) (w j₀ w' j j₂ :
         long = since.long ∙ sym ends.long;
       }
 
-      made_at : {end : ℕ} (z : List ℕ) → n ≡ At end → told 0 h (whole e x') w' z j₂ end ≡ told_after z used (leave began (ok h (world_of (whole e x') w' j at)))
+      made_at : {end : ℕ} (z : List ℕ) → n ≡ Some end → told 0 h (whole e x') w' z j₂ end ≡ told_after z used (leave began (ok h (world_of (whole e x') w' j at)))
       unfolding closed told_after
       made_at {end} z f =
           ap (λ (l : List ℕ). told 0 h (whole e x') w' z l end) (sym (take-append-drop end j₂))
           ∙ ap (told 0 h (whole e x') w' z (take end j₂ ++ drop end j₂)) (sym (length-take-le end j₂ (ends.inside end f)))
           ∙ ap (told_after z used) (rw f at closed_so)
 
-      full_at : n ≡ Full → leave began (ok h (world_of (whole e x') w' j at)) ≡ unmade 11 (cleared began)
+      full_at : n ≡ None → leave began (ok h (world_of (whole e x') w' j at)) ≡ unmade 11 (cleared began)
       unfolding closed
       full_at f = sym (rw f at closed_so)
 
@@ -147,57 +145,57 @@ module _ (k : Core) (x x' : Arrays) (h : Heard) (used : ℕ) (w j₀ w' j j₂ :
       since_then = by s.walk later noted
         where
           by : (q : Walk) → Later used q j → noting n j₂ ≡ add_end used (add_all (changed 0 (fields_of d) (fields_of (whole s.core x'))) (noting (begun_at q) j)) → Since used j₀ j₂
-          by (On at) l f = since-on s.core at l f
-          by (Off why at) l f = subst (Since used j₀) (sym (all_full_so used _ j f)) since
+          by (Ok at) l f = since-on s.core at l f
+          by (Err stopped) l f = subst (Since used j₀) (sym (all_full_so used _ j f)) since
 
       pub front_then : take (end_at s.walk) j₂ ≡ take (end_at s.walk) j
       front_then = by s.walk later noted
         where
           by : (q : Walk) → Later used q j → noting n j₂ ≡ add_end used (add_all (changed 0 (fields_of d) (fields_of (whole s.core x'))) (noting (begun_at q) j)) → take (end_at q) j₂ ≡ take (end_at q) j
-          by (On at) l f = (ends s.core at l f).front
-          by (Off why at) l f = ap (take at) (all_full_so used _ j f)
+          by (Ok at) l f = (ends s.core at l f).front
+          by (Err stopped) l f = ap (take stopped.at) (all_full_so used _ j f)
 
-      done-made : (z : List ℕ) → (done_by k s n used).verdict ≡ Verdict.Accepted → told_done h (done_by k s n used) x' w' z j₂ ≡ told_after z used (perform base lent m began)
+      done-made : (z : List ℕ) → (done_by k s n used).verdict ≡ (Ok tt) → told_done h (done_by k s n used) x' w' z j₂ ≡ told_after z used (perform base lent m began)
       done-made z v = by s.walk n later noted v ∙ ap (told_after z used) (sym left)
         where
           by : (q : Walk) (n : Noted) → Later used q j → noting n j₂ ≡ add_end used (add_all (changed 0 (fields_of d) (fields_of (whole s.core x'))) (noting (begun_at q) j))
-              → (done_at k q s.core n used).verdict ≡ Verdict.Accepted
+              → (done_at k q s.core n used).verdict ≡ (Ok tt)
               → told_done h (done_at k q s.core n used) x' w' z j₂ ≡ told_after z used (leave began (arrived_at q h (whole s.core x') w' j))
-          by (On at) (At end) l f v = made_at s.core at l f z refl
-          by (On at) Full l f v = absurd (let z : ◌≡◌ {A = ℕ} 0 1 = cc in omega arith)
-          by (Off why at) n l f v = absurd (let z : ◌≡◌ {A = ℕ} 0 1 = cc in omega arith)
+          by (Ok at) (Some end) l f v = made_at s.core at l f z refl
+          by (Ok at) None l f v = absurd (let z : ◌≡◌ {A = ℕ} 0 1 = cc in omega arith)
+          by (Err stopped) n l f v = absurd (let z : ◌≡◌ {A = ℕ} 0 1 = cc in omega arith)
 
       -- a refused call's number, and that it leaves the core as it was
-      done-unmade : {why : Refusal} → (done_by k s n used).verdict ≡ Verdict.Refused why
-          → (perform base lent m began ≡ unmade (refusal_number why) (cleared began)) × (done_by k s n used ≡ refused_by k (Verdict.Refused why) used)
+      done-unmade : {why : Refusal} → (done_by k s n used).verdict ≡ Err why
+          → (perform base lent m began ≡ unmade (refusal_number why) (cleared began)) × (done_by k s n used ≡ refused_by k (Err why) used)
       done-unmade {why} v = let r = by s.walk n later noted v in (left ∙ r.0, r.1)
         where
           by : (q : Walk) (n : Noted) → Later used q j → noting n j₂ ≡ add_end used (add_all (changed 0 (fields_of d) (fields_of (whole s.core x'))) (noting (begun_at q) j))
-              → (done_at k q s.core n used).verdict ≡ Verdict.Refused why
-              → (leave began (arrived_at q h (whole s.core x') w' j) ≡ unmade (refusal_number why) (cleared began)) × (done_at k q s.core n used ≡ refused_by k (Verdict.Refused why) used)
-          by (On at) (At end) l f v = absurd (let z : ◌≡◌ {A = ℕ} 0 1 = cc in omega arith)
-          by (On at) Full l f v = (full_at s.core at l f refl ∙ ap (λ (q : ℕ). unmade q (cleared began)) (ap verdict_number v), ap (λ (q : Verdict). refused_by k q used) v)
-          by (Off r at) n l f v = (leave_refused began (world_of (whole s.core x') w' j at) (refusal_number r) ∙ ap (λ (q : ℕ). unmade q (cleared began)) (ap verdict_number v), ap (λ (q : Verdict). refused_by k q used) v)
+              → (done_at k q s.core n used).verdict ≡ Err why
+              → (leave began (arrived_at q h (whole s.core x') w' j) ≡ unmade (refusal_number why) (cleared began)) × (done_at k q s.core n used ≡ refused_by k (Err why) used)
+          by (Ok at) (Some end) l f v = absurd (let z : ◌≡◌ {A = ℕ} 0 1 = cc in omega arith)
+          by (Ok at) None l f v = (full_at s.core at l f refl ∙ ap (λ (q : ℕ). unmade q (cleared began)) (ap verdict_number v), ap (λ (q : Verdict). refused_by k q used) v)
+          by (Err stopped) n l f v = (leave_refused began (world_of (whole s.core x') w' j stopped.at) (refusal_number stopped.why) ∙ ap (λ (q : ℕ). unmade q (cleared began)) (ap verdict_number v), ap (λ (q : Verdict). refused_by k q used) v)
 
       -- the same of the answer, as code has it
       module _ (r : Done) (is : r ≡ done_by k s n used) where
-        pub told_made : (z : List ℕ) → r.verdict ≡ Verdict.Accepted → told_done h r x' w' z j₂ ≡ told_after z used (perform base lent m began)
+        pub told_made : (z : List ℕ) → r.verdict ≡ (Ok tt) → told_done h r x' w' z j₂ ≡ told_after z used (perform base lent m began)
         told_made z v = rw is (done-made z (rw is at v))
 
-        pub told_unmade : {why : Refusal} → r.verdict ≡ Verdict.Refused why → perform base lent m began ≡ unmade (refusal_number why) (cleared began)
+        pub told_unmade : {why : Refusal} → r.verdict ≡ Err why → perform base lent m began ≡ unmade (refusal_number why) (cleared began)
         told_unmade v = (done-unmade (rw is at v)).0
 
-        pub core_kept : {why : Refusal} → r.verdict ≡ Verdict.Refused why → r ≡ refused_by k (Verdict.Refused why) used
+        pub core_kept : {why : Refusal} → r.verdict ≡ Err why → r ≡ refused_by k (Err why) used
         core_kept v = is ∙ (done-unmade (rw is at v)).1
 
         -- where nothing is to be undone but the journal
-        pub told-cleared : (z : List ℕ) {j₃ : List ℕ} {why : Refusal} → r.verdict ≡ Verdict.Refused why → j₃ ≡ cleared_from used j₂
-            → told_done Heard.Nothing r x w z j₃ ≡ told_after z used (perform base lent m began)
+        pub told-cleared : (z : List ℕ) {j₃ : List ℕ} {why : Refusal} → r.verdict ≡ Err why → j₃ ≡ cleared_from used j₂
+            → told_done None r x w z j₃ ≡ told_after z used (perform base lent m began)
         unfolding told_after cleared
         told-cleared z {j₃} {why} v c =
             let t = since_then in
-            ap (λ (q : Done). told_done Heard.Nothing q x w z j₃) (core_kept v)
-            ∙ ap (λ (l : List ℕ). told (refusal_number why) Heard.Nothing d w z l used) (c ∙ rw (← t.front, ← t.long, ← length-drop used j₀) refl)
+            ap (λ (q : Done). told_done None q x w z j₃) (core_kept v)
+            ∙ ap (λ (l : List ℕ). told (refusal_number why) None d w z l used) (c ∙ rw (← t.front, ← t.long, ← length-drop used j₀) refl)
             ∙ ap (told_after z used) (sym (told_unmade v))
 
 -- ---- an act that changed the core alone, and perhaps the table
@@ -214,25 +212,25 @@ module _ (k : Core) (s : Reached) (x : Arrays) (t : List ℕ) (p : Proper (whole
 
 -- what stands after a call, by its verdict; and the other way round
 module _ (r : Done) (x y : Arrays) (h : Heard) (w z j : List ℕ) {u : Told} where
-  pub stands_new : r.verdict ≡ Verdict.Accepted → told_done h r y w z j ≡ u → told_done h r (remaining r.verdict x y) w z j ≡ u
+  pub stands_new : r.verdict ≡ (Ok tt) → told_done h r y w z j ≡ u → told_done h r (remaining r.verdict x y) w z j ≡ u
   unfolding remaining
   stands_new v e = ap (λ (q : Verdict). told_done h r (remaining q x y) w z j) v ∙ e
 
-  pub stands_old : {why : Refusal} → r.verdict ≡ Verdict.Refused why → told_done h r x w z j ≡ u → told_done h r (remaining r.verdict x y) w z j ≡ u
+  pub stands_old : {why : Refusal} → r.verdict ≡ Err why → told_done h r x w z j ≡ u → told_done h r (remaining r.verdict x y) w z j ≡ u
   unfolding remaining
   stands_old v e = ap (λ (q : Verdict). told_done h r (remaining q x y) w z j) v ∙ e
 
-  pub stood_new : r.verdict ≡ Verdict.Accepted → told_done h r (remaining r.verdict x y) w z j ≡ u → told_done h r y w z j ≡ u
+  pub stood_new : r.verdict ≡ (Ok tt) → told_done h r (remaining r.verdict x y) w z j ≡ u → told_done h r y w z j ≡ u
   unfolding remaining
   stood_new v e = sym (ap (λ (q : Verdict). told_done h r (remaining q x y) w z j) v) ∙ e
 
-  pub stood_old : {why : Refusal} → r.verdict ≡ Verdict.Refused why → told_done h r (remaining r.verdict x y) w z j ≡ u → told_done h r x w z j ≡ u
+  pub stood_old : {why : Refusal} → r.verdict ≡ Err why → told_done h r (remaining r.verdict x y) w z j ≡ u → told_done h r x w z j ≡ u
   unfolding remaining
   stood_old v e = sym (ap (λ (q : Verdict). told_done h r (remaining q x y) w z j) v) ∙ e
 
 -- what an act does to a device is done from the journal's end on
 pub does-goes : (base : ℕ) (lent : Lent) (act : Act (Unit {0})) (d : Device) (k : Core) (x : Arrays) (w j : List ℕ) (used : ℕ) → Does act d (whole k x)
-    → came_to (Going (record { scalars = k.scalars; at = used })) (whole k x) w j x.table x.majors ≡ go base lent act (world_of d w j used)
+    → came_to (Ok (record { scalars = k.scalars; at = used })) (whole k x) w j x.table x.majors ≡ go base lent act (world_of d w j used)
 unfolding came_to Answers
 does-goes base lent act d k x w j used h = sym (h base lent w (take used j) (drop used j))
 
@@ -244,8 +242,8 @@ pub stood_same : (r : Done) (x : Arrays) (h : Heard) (w z j : List ℕ) {u : Tol
 stood_same r x h w z j e = sym (ap (λ (y : Arrays). told_done h r y w z j) (by r.verdict)) ∙ e
   where
     by : (v : Verdict) → remaining v x x ≡ x
-    by Verdict.Accepted = (unfold remaining in refl)
-    by (Verdict.Refused n) = (unfold remaining in refl)
+    by (Ok tt) = (unfold remaining in refl)
+    by (Err n) = (unfold remaining in refl)
 
 -- the last records of an act that changed pending counts besides the core
 module _ (k : Core) (s : Reached) (x : Arrays) (p : Proper (whole k x)) (q : List ℕ) (used : ℕ) (j : List ℕ) {b t₁ t₂ n : Noted} {j₁ j₂ j₃ : List ℕ} where
@@ -260,10 +258,10 @@ module _ (k : Core) (s : Reached) (x : Arrays) (p : Proper (whole k x)) (q : Lis
 
 -- of one that changed taken counts alone
 module _ (k : Core) (x : Arrays) (p : Proper (whole k x)) (q : List ℕ) (used at : ℕ) (j : List ℕ) {t n : Noted} {j₁ j₂ : List ℕ} where
-  pub taken-noted : Part 192 576 x.taken q (At at) t j j₁ → noting n j₂ ≡ add_end used (noting t j₁)
-      → noting n j₂ ≡ add_end used (add_all (changed 0 (fields_of (whole k x)) (fields_of (whole k (taking x q)))) (noting (At at) j))
+  pub taken-noted : Part 192 576 x.taken q (Some at) t j j₁ → noting n j₂ ≡ add_end used (noting t j₁)
+      → noting n j₂ ≡ add_end used (add_all (changed 0 (fields_of (whole k x)) (fields_of (whole k (taking x q)))) (noting (Some at) j))
   taken-noted g h =
       h
       ∙ ap (add_end used)
-      (all_noted k k x (taking x q) (At at) j (same 0 (core_in k) (At at) j) (same-busy k x p (At at) j) (same-majors k x p (At at) j) (same-pending k x p (At at) j)
-      (same-part k k x p (record { first = refl; second = refl; third = refl }) (At at) j) g refl)
+      (all_noted k k x (taking x q) (Some at) j (same 0 (core_in k) (Some at) j) (same-busy k x p (Some at) j) (same-majors k x p (Some at) j) (same-pending k x p (Some at) j)
+      (same-part k k x p (record { first = refl; second = refl; third = refl }) (Some at) j) g refl)

@@ -3,7 +3,6 @@
 #![tactic(auto)]
 
 ghost use Rattle.std.specs.Prelude.{◌≡◌, ◌≤◌, length};
-ghost use Rattle.rules.specs.declared.Verdict.TheVariants as Verdict;
 ghost use Rattle.act.specs.Lent.{◌⇒◌};
 ghost use Rattle.acting.specs.Ending.{begun_at, refused_by, done_by, cleared_from, Settles, EndsCore};
 
@@ -20,10 +19,10 @@ pub struct Reached {
 
 // "Each gives its number and leaves window, device and used journal as at entry."
 pub fn refused(k: Core, why: Refusal, used: usize) -> Done
-    ensures { result ≡ refused_by k (Verdict.Refused why) used }
+    ensures { result ≡ refused_by k (Err why) used }
 {
     Done {
-        verdict: Verdict::Refused(why),
+        verdict: Err(why),
         used,
         core: k,
     }
@@ -73,7 +72,7 @@ pub fn done(k: Core, s: Reached, n: Noted, used: usize) -> Done
             };
             let core = s.core;
             Done {
-                verdict: Verdict::Accepted,
+                verdict: Ok(()),
                 used: end,
                 core,
             }
@@ -101,7 +100,7 @@ pub fn end_core(k: Core, s: Reached, levels: bool, journal: &mut [u8], used: usi
     let sources = closing::note_sources(numbers, levels, k, core, journal);
     let r = done(k, s, closing::note_end(sources, used, journal), used);
     let verdict = r.verdict;
-    let Verdict::Accepted = verdict else {
+    let Ok(()) = verdict else {
         clear(journal, used);
         return r;
     };

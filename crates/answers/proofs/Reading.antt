@@ -1,4 +1,5 @@
 -- What a caller reads off an answer is what was put there. Assumes nothing.
+use Rattle.std.specs.Prelude.{None}
 use mathlib.Core.List.{◌∷◌, []}
 use mathlib.Core.Path.{◌≡◌, refl, ◌∙◌}
 use Prim.Native.Nat.{ℕ, ◌+◌, ◌*◌, ◌%◌, ◌^◌, ◌<◌}
@@ -7,7 +8,7 @@ use native.Mathlib.Omega.{arith}
 use borrow.Author.Tests.{ne_eqb}
 use lib.Dec.{lit<}
 use Rattle.rules.specs.Calls.{heard_level, heard_vector, ToldRead, told_read}
-use Rattle.rules.specs.declared.Heard.{Heard}
+use Rattle.rules.specs.Verdicts.{Heard}
 use Rattle.rules.proofs.Bench.{read_number}
 use Rattle.rules.proofs.Hearing.{Audible}
 use Rattle.answers.specs.Answers.{packed, read_by, status_in, level_in, vector_in, low_in, heard_in}
@@ -20,7 +21,7 @@ unpacked n l v low h k = parts (low % 2 ^ 32) (mod-lt low (lit< tt))
     parts x b = (omega arith, omega arith, omega arith, omega arith)
 
 heard_bytes : (heard : Heard) → Audible heard → (heard_level heard < 2 ^ 8) × (heard_vector heard < 2 ^ 8)
-heard_bytes Heard.Nothing a = (lit< tt, lit< tt)
+heard_bytes None a = (lit< tt, lit< tt)
 heard_bytes (Heard.Source l v) a = (omega (arith, a.1), a.3)
 
 -- of an outcome: its number, what was heard, and its used length where that fits 32 bits
@@ -35,7 +36,7 @@ module _ (n : ℕ) (heard : Heard) (used : ℕ) (a : Audible heard) where
   low_is fits = let b = heard_bytes heard a in (unpacked n (heard_level heard) (heard_vector heard) used b.0 b.1).3 ∙ mod-eq_of_lt fits
 
 pub heard_is : (n : ℕ) (heard : Heard) (used : ℕ) → Audible heard → heard_in (packed n (heard_level heard) (heard_vector heard) used) ≡ heard
-heard_is n Heard.Nothing used a = let r = unpacked n 0 0 used (lit< tt) (lit< tt) in rw r.1 refl
+heard_is n None used a = let r = unpacked n 0 0 used (lit< tt) (lit< tt) in rw r.1 refl
 heard_is n (Heard.Source l v) used a = let r = unpacked n l v used (omega (arith, a.1)) a.3 in rw (r.1, r.2, ne_eqb l 0 (λ e. omega (arith, a.0))) refl
 
 pub read_status : (t : ToldRead) → status_in (read_by t) ≡ read_number t

@@ -1,6 +1,7 @@
 -- Demand 3 of rows of entries, however they hold a device (`of`), each on what the one before it left, with the used length read off its answer:
 -- device, window and used journal are what the entries still standing, made alone in order, give; these are accepted and answer the same; and what a
 -- take-back answers. Assumes nothing.
+use Rattle.std.specs.Prelude.{None}
 use mathlib.Core.Bool.{false}
 use mathlib.Core.List.{List, [], ◌∷◌}
 use mathlib.Core.Logic.{◌↔◌}
@@ -12,7 +13,7 @@ use Rattle.rules.specs.Bytes.{Bytes}
 use Rattle.rules.specs.Calls.{bad_window, Told, told, heard_told}
 use Rattle.rules.specs.Carry.{After, made, unmade}
 use Rattle.rules.specs.State.{Device}
-use Rattle.rules.specs.declared.Heard.{Heard}
+use Rattle.rules.specs.Verdicts.{Heard}
 use Rattle.rules.proofs.Along.{Along, make_along, back_along}
 use Rattle.rules.proofs.Bench.{Held, RowCall, ended, ended_amiss, make_held, back_held, walked}
 use Rattle.rules.proofs.Demand3.{Start, same_as_alone, last_taken_back, refused_12_iff_none, refused_only_12}
@@ -143,10 +144,10 @@ module _ {D : Type 0} (of : Device → D) where
 
       -- where one stands, a take-back is accepted, and leads to what the others, made alone in order, give
       pub rows_last_taken_back : (row : List (Entry RowCall)) (c : RowCall × Heard) (cs : List (RowCall × Heard)) → let s = row_of row in s.standing ≡ c ∷ cs
-          → (t u : Shelf D) × (take_back s.here ≡ made Heard.Nothing t) × Alone make (shelf_of own) cs u × (compared_shelf t ≡ compared_shelf u)
+          → (t u : Shelf D) × (take_back s.here ≡ made None t) × Alone make (shelf_of own) cs u × (compared_shelf t ≡ compared_shelf u)
       rows_last_taken_back row c cs =
           subst
-          (λ s. s.standing ≡ c ∷ cs → (t u : Shelf D) × (take_back s.here ≡ made Heard.Nothing t) × Alone make (shelf_of own) cs u × (compared_shelf t ≡ compared_shelf u))
+          (λ s. s.standing ≡ c ∷ cs → (t u : Shelf D) × (take_back s.here ≡ made None t) × Alone make (shelf_of own) cs u × (compared_shelf t ≡ compared_shelf u))
           (sym (row_is row)) (λ e.
           let r = last_taken_back base own own_start row c cs e in
           (shelf_of r.0, shelf_of r.1, back_is row ∙ ap (carried (λ (a : Heard). a) shelf_of) r.2, alone_is r.3, ap shelf_of r.4))

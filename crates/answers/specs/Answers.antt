@@ -1,6 +1,6 @@
 -- The answer of an entry in one number (docs/ABI.md), and all that is there after an entry, however it holds a device. Assumes nothing.
-use Rattle.std.specs.Prelude.{cond, List, ℕ, ◌+◌, ◌*◌, ◌/◌, ◌%◌, ◌^◌, eqb}
-use Rattle.rules.specs.declared.Heard.{Heard}
+use Rattle.std.specs.Prelude.{cond, List, ℕ, ◌+◌, ◌*◌, ◌/◌, ◌%◌, ◌^◌, eqb, Some, None}
+use Rattle.rules.specs.Verdicts.{Heard}
 use Rattle.rules.specs.Calls.{heard_level, heard_vector, Told, told, ToldRead, told_read}
 use Rattle.rules.specs.State.{Device}
 use Rattle.captures.specs.declared.Judged.{Judged}
@@ -25,7 +25,7 @@ low_in r = r % 2 ^ 32
 
 -- level 0: nothing
 abbrev pub heard_in : ℕ → Heard
-heard_in r = cond (eqb (level_in r) 0) Heard.Nothing (Heard.Source (level_in r) (vector_in r))
+heard_in r = cond (eqb (level_in r) 0) None (Some (record { level = level_in r; vector = vector_in r }))
 
 -- a register read: the value, 0 after a refusal
 unfoldable pub read_by : ToldRead → ℕ

@@ -36,8 +36,8 @@ pub fn verdict_number(v: Verdict) -> u8
     ensures { result ≡ verdict_number v }
 {
     match v {
-        Verdict::Accepted => 0,
-        Verdict::Refused(r) => refusal_number(r),
+        Ok(()) => 0,
+        Err(r) => refusal_number(r),
     }
 }
 
@@ -45,7 +45,7 @@ fn level_of(h: Heard) -> u8
     ensures { result ≡ heard_level h }
 {
     match h {
-        Heard::Nothing => 0,
+        None => 0,
         Heard::Source(level, _) => level,
     }
 }
@@ -54,7 +54,7 @@ fn vector_of(h: Heard) -> u8
     ensures { result ≡ heard_vector h }
 {
     match h {
-        Heard::Nothing => 0,
+        None => 0,
         Heard::Source(_, vector) => vector,
     }
 }
@@ -88,8 +88,8 @@ pub fn reading_of(r: Reading) -> u64
     ensures { result ≡ read_by (told_reading r) }
 {
     match r {
-        Reading::Value(v) => packed(0, 0, 0, v as u64),
-        Reading::Refused(why) => packed(refusal_number(why), 0, 0, 0),
+        Ok(v) => packed(0, 0, 0, v as u64),
+        Err(why) => packed(refusal_number(why), 0, 0, 0),
     }
 }
 

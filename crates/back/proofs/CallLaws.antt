@@ -1,4 +1,5 @@
 -- A take-back by cases: each refusal, and the call that is accepted. Assumes nothing.
+use Rattle.std.specs.Prelude.{None, Ok, Err}
 use mathlib.Core.Bool.{Bool, true, false, not, ◌||◌}
 use mathlib.Core.List.{List, [], ◌++◌, append_assoc}
 use mathlib.Core.Path.{◌≡◌, refl, sym, ap, ◌∙◌}
@@ -14,9 +15,7 @@ use Rattle.rules.specs.TakeBack.{decode_all, take_back}
 use Rattle.rules.specs.declared.Acted.{Acted}
 use Rattle.rules.specs.View.{view}
 use Rattle.rules.specs.declared.Device.{Device as HeldDevice}
-use Rattle.rules.specs.declared.Heard.TheVariants as Heard
 use Rattle.rules.specs.declared.Refusal.{Refusal}
-use Rattle.rules.specs.declared.Verdict.TheVariants as Verdict
 use Rattle.rules.proofs.BoolLaws.{neither}
 use Rattle.rules.proofs.Back.{take_none}
 use Rattle.rules.proofs.Told.{refusal_suc}
@@ -39,13 +38,13 @@ module _ (len used : ℕ) (fine : bad_journal len used ≡ false) where
 
 -- the answer r, with window and journal as they are then
 module _ (base : ℕ) (d : HeldDevice) (w j : List ℕ) (used : ℕ) where
-  pub bad_window_lem : {r : Acted} → bad_window base (length w) ≡ true → r ≡ record { verdict = Verdict.Refused Refusal.Window; used = used; device = d }
+  pub bad_window_lem : {r : Acted} → bad_window base (length w) ≡ true → r ≡ record { verdict = Err Refusal.Window; used = used; device = d }
       → told_acted r w [] j ≡ after_back base (view d) w j used
   unfolding after_back unless_stopped wrong_back check
   bad_window_lem e h = rw (h, e)
 
   module _ (window-fine : bad_window base (length w) ≡ false) where
-    pub bad_journal_lem : {r : Acted} → bad_journal (length j) used ≡ true → r ≡ record { verdict = Verdict.Refused Refusal.Journal; used = used; device = d }
+    pub bad_journal_lem : {r : Acted} → bad_journal (length j) used ≡ true → r ≡ record { verdict = Err Refusal.Journal; used = used; device = d }
         → told_acted r w [] j ≡ after_back base (view d) w j used
     unfolding after_back unless_stopped wrong_back check
     bad_journal_lem e h = rw (h, window-fine, e)
@@ -55,24 +54,24 @@ module _ (base : ℕ) (d : HeldDevice) (w j : List ℕ) (used : ℕ) where
       unfolding after_back unless_stopped wrong_back check
       tested = rw (window-fine, journal-fine)
 
-      unmade_as : (n : ℕ) → take_back base (world_of (view d) w j used) ≡ unmade n (world_of (view d) w j used) → told n Heard.Nothing (view d) w [] j used ≡ after_back base (view d) w j used
+      unmade_as : (n : ℕ) → take_back base (world_of (view d) w j used) ≡ unmade n (world_of (view d) w j used) → told n None (view d) w [] j used ≡ after_back base (view d) w j used
       unfolding told_after heard_nothing
       unmade_as n e = sym (tested ∙ rw (e, take-append-drop used j))
 
-      pub nothing-stands : {r : Acted} → used ≡ 0 → r ≡ record { verdict = Verdict.Refused Refusal.NothingStands; used = used; device = d }
+      pub nothing-stands : {r : Acted} → used ≡ 0 → r ≡ record { verdict = Err Refusal.NothingStands; used = used; device = d }
           → told_acted r w [] j ≡ after_back base (view d) w j used
       nothing-stands z h = rw h (unmade_as 12 (take_none base (world_of (view d) w j used) (rw z)))
 
       -- what was found to stand is s
       module _ (long : length d.table ≡ 2048) {s : Standing} (found : Finds d.chip base w (take used j) s) where
-        pub is_damaged : {r : Acted} → s ≡ Damaged → r ≡ record { verdict = Verdict.Refused Refusal.Damaged; used = used; device = d }
+        pub is_damaged : {r : Acted} → s ≡ Damaged → r ≡ record { verdict = Err Refusal.Damaged; used = used; device = d }
             → told_acted r w [] j ≡ after_back base (view d) w j used
         is_damaged e h = rw h (unmade_as 13 ((rw e at found) (view d) (drop used j) refl long))
 
         pub accepted : {from n : ℕ} {after : HeldDevice} {w' j' : List ℕ} {r : Acted} → s ≡ Group from n
             → machine w' (view after) ≡ undo base (decode_all n (drop from (take used j))) (machine w (view d))
             → j' ≡ take from j ++ replicate (used - from) 0 ++ drop used j
-            → r ≡ record { verdict = Verdict.Accepted; used = from; device = after }
+            → r ≡ record { verdict = (Ok tt); used = from; device = after }
             → told_acted r w' [] j' ≡ after_back base (view d) w j used
         unfolding told_after heard_nothing
         accepted {from} e undone cleared h =
@@ -89,10 +88,10 @@ group_stands found e = (rw e at found).0
 
 -- ---- priorities: a refused call's answer has the device, and an accepted one's verdict is no refusal
 
-pub refused_spares : {d : HeldDevice} {r : Acted} {why : Refusal} {used : ℕ} → r ≡ record { verdict = Verdict.Refused why; used = used; device = d } → Spared r.verdict d.priorities r.device.priorities
+pub refused_spares : {d : HeldDevice} {r : Acted} {why : Refusal} {used : ℕ} → r ≡ record { verdict = Err why; used = used; device = d } → Spared r.verdict d.priorities r.device.priorities
 refused_spares h n e = ap (λ (a : Acted). a.device.priorities) h
 
-pub accepted_spares : {held : List ℕ} {after : HeldDevice} {r : Acted} {from : ℕ} → r ≡ record { verdict = Verdict.Accepted; used = from; device = after } → Spared r.verdict held r.device.priorities
+pub accepted_spares : {held : List ℕ} {after : HeldDevice} {r : Acted} {from : ℕ} → r ≡ record { verdict = (Ok tt); used = from; device = after } → Spared r.verdict held r.device.priorities
 accepted_spares {r = r} h n e =
     let z : verdict_number r.verdict ≡ 0 = ap (λ (a : Acted). verdict_number a.verdict) h in
     absurd (omega (arith, sym z ∙ ap verdict_number e, (refusal_suc n).1))

@@ -1,5 +1,6 @@
 -- The contract of `take_back` fixes its outcome, at the same arguments: two outcomes that satisfy it are equal but for those bits of priorities that
 -- count for nothing, and a refused call's device is the one given, with these too. Assumes nothing.
+use Rattle.std.specs.Prelude.{Err}
 use mathlib.Core.List.{List, []}
 use mathlib.Core.Path.{◌≡◌, sym, ◌∙◌}
 use Prim.Native.Nat.{ℕ}
@@ -8,7 +9,6 @@ use Rattle.rules.specs.View.{view}
 use Rattle.rules.specs.declared.Acted.{Acted}
 use Rattle.rules.specs.declared.Device.{Device as HeldDevice}
 use Rattle.rules.specs.declared.Refusal.{Refusal}
-use Rattle.rules.specs.declared.Verdict.TheVariants as Verdict
 use Rattle.rules.proofs.CallLaws.{back_as_given}
 use Rattle.rules.proofs.Told.{SameActed, told_once, given_back}
 
@@ -20,5 +20,5 @@ module _ (base : ℕ) (d : HeldDevice) (window journal : List ℕ) (used : ℕ) 
         let same = told_once a b (meets ∙ sym e) in
         (same.0, same.1, same.3)
 
-    pub as_given : Spared a.verdict d.priorities a.device.priorities → (n : Refusal) → a.verdict ≡ Verdict.Refused n → a.device ≡ d
+    pub as_given : Spared a.verdict d.priorities a.device.priorities → (n : Refusal) → a.verdict ≡ Err n → a.device ≡ d
     as_given spared n e = given_back d a.device window journal used (back_as_given base (view d) window journal used) a.verdict meets spared n e

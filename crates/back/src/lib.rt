@@ -9,7 +9,6 @@ ghost use Rattle.rules.specs.Calls.{Spared, after_back, told_acted};
 ghost use Rattle.rules.specs.Carry.{undo};
 ghost use Rattle.rules.specs.Fields.{field_at, fits_some, with_number};
 ghost use Rattle.rules.specs.TakeBack.{ends, kind, place, value, all_sound, decode_all};
-ghost use Rattle.rules.specs.declared.Verdict.TheVariants as How;
 ghost use Rattle.scan.specs.Heads.{scanning};
 ghost use Rattle.back.specs.Standing.{Finds, machine};
 
@@ -115,10 +114,10 @@ fn undo_group(
 
 // "Each gives its number and leaves window, device and used journal as at entry"; "after a refusal the one given".
 fn refused(d: Device, why: Refusal, used: usize) -> Acted
-    ensures { result ≡ record { verdict = How.Refused why; used = used; device = d } }
+    ensures { result ≡ record { verdict = Err why; used = used; device = d } }
 {
     Acted {
-        verdict: Verdict::Refused(why),
+        verdict: Err(why),
         used,
         device: d,
     }
@@ -126,10 +125,10 @@ fn refused(d: Device, why: Refusal, used: usize) -> Acted
 
 // The used length that an accepted take-back answers is where the removed group began.
 fn accepted(e: Device, from: usize) -> Acted
-    ensures { result ≡ record { verdict = How.Accepted; used = from; device = e } }
+    ensures { result ≡ record { verdict = (Ok tt); used = from; device = e } }
 {
     Acted {
-        verdict: Verdict::Accepted,
+        verdict: Ok(()),
         used: from,
         device: e,
     }

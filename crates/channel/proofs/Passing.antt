@@ -1,5 +1,6 @@
 -- The passes of one channel, one after another: what is left to do from where a loop stands is the whole from where it began, and a pass takes
 -- the first one off what is left, or ends the whole. Assumes nothing.
+use Rattle.std.specs.Prelude.{Ok, Err}
 use mathlib.Core.Bool.{Bool, true, false, cond, ◌&&◌, ◌||◌}
 use mathlib.Core.List.{List}
 use mathlib.Core.Path.{◌≡◌, sym, ◌∙◌}
@@ -23,8 +24,7 @@ use Rattle.rules.specs.declared.Refusal.{Refusal}
 use Rattle.rules.proofs.Steps.{bind_ok, bind_no, putting}
 use Rattle.act.specs.Worlds.{world, came_to}
 use Rattle.act.specs.declared.Flow.{Flow}
-use Rattle.act.specs.declared.Step.{Step}
-use Rattle.act.specs.declared.Step.TheVariants.{Going, Refused}
+use Rattle.act.specs.Worlds.{Step}
 use Rattle.minor.specs.Passes.{passed, Passes}
 use Rattle.minor.specs.declared.Passed.{Passed}
 use Rattle.minor.specs.declared.Passed.TheVariants.{Idle, Ran}
@@ -43,11 +43,11 @@ module _ (base : ℕ) (lent : Lent) (ch : ℕ) (d : Device) (c : Flow) (w j t m 
     unfolding passed
     pass_idle e = sym (rw e at did)
 
-    pass_on : (s : Step) (f : Flow) → r ≡ Ran s → s ≡ Going f → go base lent (pass ch) (world d c w j t m) ≡ ok true (world d f w' j' t' m')
+    pass_on : (s : Step) (f : Flow) → r ≡ Ran s → s ≡ Ok f → go base lent (pass ch) (world d c w j t m) ≡ ok true (world d f w' j' t' m')
     unfolding passed
     pass_on s f ran e = sym (rw (ran, e) at did)
 
-    pass-off : (s : Step) (n : Refusal) (f : Flow) → r ≡ Ran s → s ≡ Refused n f
+    pass-off : (s : Step) (n : Refusal) (f : Flow) → r ≡ Ran s → s ≡ Err (record { why = n; at = f })
         → go base lent (pass ch) (world d c w j t m) ≡ no (refusal_number n) (world d f w' j' t' m')
     unfolding passed
     pass-off s n f ran e = sym (rw (ran, e) at did)
@@ -68,7 +68,7 @@ module _ (base : ℕ) (lent : Lent) (u v : World) (ch before n : ℕ) where
 module _ (base : ℕ) (lent : Lent) (ch before : ℕ) (whole : Device → Out (Unit {0})) (f : Flow) (w j t m : List ℕ) (left : ℕ)
     (rest : (d : Device) → go base lent (start_loop left ch before) (world d f w j t m) ≡ whole d)
   where
-    pub start_out : left ≤ 0 → (d : Device) → came_to (Going f) d w j t m ≡ whole d
+    pub start_out : left ≤ 0 → (d : Device) → came_to (Ok f) d w j t m ≡ whole d
     unfolding came_to start_loop go
     start_out e d = let z : left ≡ 0 = omega arith in rw z at (rest d)
 
@@ -79,22 +79,22 @@ module _ (base : ℕ) (lent : Lent) (ch before : ℕ) (whole : Device → Out (U
       ran_so : (d : Device) → passed r f d w' j' t' m' ≡ go base lent (pass ch) (world d f w j t m)
       ran_so d = rw same at (did d)
 
-      pub start_idle : r ≡ Idle → (d : Device) → came_to (Going f) d w' j' t' m' ≡ whole d
+      pub start_idle : r ≡ Idle → (d : Device) → came_to (Ok f) d w' j' t' m' ≡ whole d
       unfolding came_to go
       start_idle e d =
           sym (start_on base lent (world d f w j t m) (world d f w' j' t' m') ch before (left - 1) false (pass_idle base lent ch d f w j t m w' j' t' m' r (ran_so d) e)) ∙ from d
 
       module _ (s : Step) (ran : r ≡ Ran s) where
-        pub start_off : {n : Refusal} {g : Flow} → s ≡ Refused n g → (d : Device) → came_to s d w' j' t' m' ≡ whole d
+        pub start_off : {n : Refusal} {g : Flow} → s ≡ Err (record { why = n; at = g }) → (d : Device) → came_to s d w' j' t' m' ≡ whole d
         unfolding came_to
         start_off {n} {g} e d =
             rw e (sym (start_refused base lent (world d f w j t m) (world d g w' j' t' m') ch before (left - 1) (refusal_number n) (pass-off base lent ch d f w j t m w' j' t' m' r (ran_so d) s n g ran e)) ∙ from d)
 
-        module _ (g : Flow) (going : s ≡ Going g) where
+        module _ (g : Flow) (going : s ≡ Ok g) where
           went : (d : Device) → go base lent (cond (eqb (get_or m' ch 0) before) (start_loop (left - 1) ch before) nothing) (world d g w' j' t' m') ≡ whole d
           went d = sym (start_on base lent (world d f w j t m) (world d g w' j' t' m') ch before (left - 1) true (pass_on base lent ch d f w j t m w' j' t' m' r (ran_so d) s g ran going)) ∙ from d
 
-          pub start_stop : (get_or m' ch 0 ≡ before → ⊥) → (d : Device) → came_to (Going g) d w' j' t' m' ≡ whole d
+          pub start_stop : (get_or m' ch 0 ≡ before → ⊥) → (d : Device) → came_to (Ok g) d w' j' t' m' ≡ whole d
           unfolding came_to go
           start_stop h d = rw (ne_eqb _ _ h) at (went d)
 
@@ -136,12 +136,12 @@ module _ (base : ℕ) (lent : Lent) (whole : Device → Out ℕ) (f : Flow) (w j
             sym (line_on base lent (world d f w j t m) (world d f w' j' t' m') sum (left - 1) long false (pass_idle base lent 35 d f w j t m w' j' t' m' r (ran_line d) e) long') ∙ from_line d
 
         module _ (s : Step) (ran : r ≡ Ran s) where
-          pub line-off : {n : Refusal} {g : Flow} → s ≡ Refused n g → (d : Device) → lined (at_sum sum s) d w' j' t' m' ≡ whole d
+          pub line-off : {n : Refusal} {g : Flow} → s ≡ Err (record { why = n; at = g }) → (d : Device) → lined (at_sum sum s) d w' j' t' m' ≡ whole d
           unfolding lined
           line-off {n} {g} e d =
               rw e (sym (line_refused base lent (world d f w j t m) (world d g w' j' t' m') sum (left - 1) long (refusal_number n) (pass-off base lent 35 d f w j t m w' j' t' m' r (ran_line d) s n g ran e)) ∙ from_line d)
 
-          module _ (g : Flow) (going : s ≡ Going g) (csr : ℕ) (last : csr ≡ (tcd_of (part t' (32 * 35) 32)).csr) where
+          module _ (g : Flow) (going : s ≡ Ok g) (csr : ℕ) (last : csr ≡ (tcd_of (part t' (32 * 35) 32)).csr) where
             summed : (d : Device) → go base lent (cond (has csr DONE || ltb (2 ^ 20) (sum + bytes)) (done (sum + bytes)) (line_loop (left - 1) (sum + bytes))) (world d g w' j' t' m') ≡ whole d
             summed d =
                 rw (first, last)
@@ -159,7 +159,7 @@ module _ (base : ℕ) (lent : Lent) (whole : Device → Out ℕ) (f : Flow) (w j
               pub line_again : sum + bytes ≤ 2 ^ 20 → (d : Device) → go base lent (line_loop (left - 1) (sum + bytes)) (world d g w' j' t' m') ≡ whole d
               line_again l d = rw (h, le-ltb _ _ l) at (summed d)
 
-pub broken_small : (r : Line) (sum : ℕ) (s : Step) {n : Refusal} {g : Flow} → r ≡ at_sum sum s → s ≡ Refused n g → Small r
+pub broken_small : (r : Line) (sum : ℕ) (s : Step) {n : Refusal} {g : Flow} → r ≡ at_sum sum s → s ≡ Err (record { why = n; at = g }) → Small r
 broken_small r sum s e h = rw (e, h) tt
 
 -- ---- requests
@@ -189,7 +189,7 @@ module _ (base : ℕ) (lent : Lent) (u : World) (ch n : ℕ) where
 module _ (base : ℕ) (lent : Lent) (ch : ℕ) (whole : Device → Out (Unit {0})) (f : Flow) (w j t m p : List ℕ) (left : ℕ)
     (rest : (d : Device) → go base lent (request_loop left ch) (world (with_pending d p) f w j t m) ≡ whole d)
   where
-    pub request_out : left ≤ 0 → (d : Device) → came_to (Going f) (with_pending d p) w j t m ≡ whole d
+    pub request_out : left ≤ 0 → (d : Device) → came_to (Ok f) (with_pending d p) w j t m ≡ whole d
     unfolding came_to request_loop go
     request_out e d = let z : left ≡ 0 = omega arith in rw z at (rest d)
 
@@ -200,7 +200,7 @@ module _ (base : ℕ) (lent : Lent) (ch : ℕ) (whole : Device → Out (Unit {0}
       is_offered : (d : Device) → offered_at ch (world (with_pending d p) f w j t m) ≡ o
       is_offered d = sym asked
 
-      pub request_stop : o ≡ false → (d : Device) → came_to (Going f) (with_pending d p) w j t m ≡ whole d
+      pub request_stop : o ≡ false → (d : Device) → came_to (Ok f) (with_pending d p) w j t m ≡ whole d
       unfolding came_to
       request_stop e d = sym (request_none base lent (world (with_pending d p) f w j t m) ch (left - 1) (is_offered d ∙ e)) ∙ from_asked d
 
@@ -219,18 +219,18 @@ module _ (base : ℕ) (lent : Lent) (ch : ℕ) (whole : Device → Out (Unit {0}
           unfolding with_device
           refused_asked d v n q = sym (request_refused base lent (world (with_pending d p) f w j t m) ch (left - 1) (is_offered d ∙ e) small v n (rw paid at q)) ∙ from_asked d
 
-          pub request_idle : r ≡ Idle → (d : Device) → came_to (Going f) (with_pending d p') w' j' t' m' ≡ whole d
+          pub request_idle : r ≡ Idle → (d : Device) → came_to (Ok f) (with_pending d p') w' j' t' m' ≡ whole d
           unfolding came_to go
           request_idle i d =
               after_asked d (world (with_pending d p') f w' j' t' m') false (pass_idle base lent ch (with_pending d p') f w j t m w' j' t' m' r (ran_asked d) i)
 
           module _ (s : Step) (ran : r ≡ Ran s) where
-            pub request_off : {n : Refusal} {g : Flow} → s ≡ Refused n g → (d : Device) → came_to s (with_pending d p') w' j' t' m' ≡ whole d
+            pub request_off : {n : Refusal} {g : Flow} → s ≡ Err (record { why = n; at = g }) → (d : Device) → came_to s (with_pending d p') w' j' t' m' ≡ whole d
             unfolding came_to
             request_off {n} {g} i d =
                 rw i (refused_asked d (world (with_pending d p') g w' j' t' m') (refusal_number n) (pass-off base lent ch (with_pending d p') f w j t m w' j' t' m' r (ran_asked d) s n g ran i))
 
-            pub request_again : (g : Flow) → s ≡ Going g → (d : Device)
+            pub request_again : (g : Flow) → s ≡ Ok g → (d : Device)
                 → go base lent (request_loop (left - 1) ch) (world (with_pending d p') g w' j' t' m') ≡ whole d
             request_again g i d =
                 after_asked d (world (with_pending d p') g w' j' t' m') true (pass_on base lent ch (with_pending d p') f w j t m w' j' t' m' r (ran_asked d) s g ran i)

@@ -1,5 +1,5 @@
 -- What the passes of one channel promise: that they do their tree's steps, whatever the rest of the device is. Assumes nothing.
-use Rattle.std.specs.Prelude.{List, ◌≡◌, ℕ, ◌^◌, ◌<◌}
+use Rattle.std.specs.Prelude.{List, ◌≡◌, ℕ, ◌^◌, ◌<◌, Ok, Err}
 use Rattle.rules.specs.Act.{Act}
 use Rattle.rules.specs.Calls.{refusal_number}
 use Rattle.rules.specs.Carry.{Out, ok, no, go, Lent}
@@ -7,7 +7,7 @@ use Rattle.rules.specs.With.{with_pending}
 use Rattle.rules.specs.State.{Device}
 use Rattle.act.specs.Worlds.{world, came_to}
 use Rattle.act.specs.declared.Flow.{Flow}
-use Rattle.act.specs.declared.Step.{Step}
+use Rattle.act.specs.Worlds.{Step}
 use Rattle.channel.specs.declared.Line.{Line}
 use Rattle.channel.specs.declared.Line.TheVariants.{Sum, Broken}
 
@@ -26,8 +26,8 @@ lined (Sum n c) d w j t m = ok n (world d c w j t m)
 lined (Broken r c) d w j t m = no (refusal_number r) (world d c w j t m)
 
 abbrev pub at_sum : ℕ → Step → Line
-at_sum n (Step.Going c) = Sum n c
-at_sum n (Step.Refused r c) = Broken r c
+at_sum n (Ok c) = Sum n c
+at_sum n (Err stopped) = Broken stopped.why stopped.at
 
 -- the sum is small enough for a time
 abbrev pub Small : Line → Type 0

@@ -1,5 +1,6 @@
 -- A turn, by cases, as the code makes it; and turns one after another: what is left to do from where the loop stands is the whole from where it
 -- began. Assumes nothing.
+use Rattle.std.specs.Prelude.{Ok, Err}
 use mathlib.Core.Bool.{Bool, true, false, cond, not, ◌&&◌}
 use mathlib.Core.List.{List}
 use mathlib.Core.Path.{◌≡◌, refl, sym, ap, ap₂, ◌∙◌, subst}
@@ -29,8 +30,7 @@ use Rattle.rules.proofs.Linked.{Flags, turn_spares}
 use Rattle.rules.proofs.Steps.{putting, go-done, bind_ok, bind_no, then_ok, change-does}
 use Rattle.act.specs.Worlds.{world, came_to}
 use Rattle.act.specs.declared.Flow.{Flow}
-use Rattle.act.specs.declared.Step.{Step}
-use Rattle.act.specs.declared.Step.TheVariants.{Going, Refused}
+use Rattle.act.specs.Worlds.{Step}
 use Rattle.minor.specs.Passes.{passed, Passes}
 use Rattle.minor.specs.declared.Passed.{Passed}
 use Rattle.minor.specs.declared.Passed.TheVariants.{Idle, Ran}
@@ -52,11 +52,11 @@ module _ (base : ℕ) (lent : Lent) (ch : ℕ) (t : Flow) (w w' j j' tb tb' m m'
   unfolding passed turned_to
   pass_not e d = rw e at (did d)
 
-  pub pass_went : (s : Step) (f : Flow) → r ≡ Ran s → s ≡ Going f → Passing (pass ch) base lent t (Yes f) w w' j j' tb tb' m m'
+  pub pass_went : (s : Step) (f : Flow) → r ≡ Ran s → s ≡ Ok f → Passing (pass ch) base lent t (Yes f) w w' j j' tb tb' m m'
   unfolding passed turned_to
   pass_went s f ran e d = rw (ran, e) at (did d)
 
-  pub pass-off : (s : Step) (n : Refusal) (f : Flow) → r ≡ Ran s → s ≡ Refused n f → Passing (pass ch) base lent t (Off n f) w w' j j' tb tb' m m'
+  pub pass-off : (s : Step) (n : Refusal) (f : Flow) → r ≡ Ran s → s ≡ Err (record { why = n; at = f }) → Passing (pass ch) base lent t (Off n f) w w' j j' tb tb' m m'
   unfolding passed turned_to
   pass-off s n f ran e d = rw (ran, e) at (did d)
 
@@ -200,13 +200,13 @@ module _ (base : ℕ) (lent : Lent) (time pace ch : ℕ) (t : Flow) (w w' j j' t
 
 -- how a turn ended, by its step
 module _ (d : Device) (w j tb m : List ℕ) where
-  turned_on : (r : Turned) (g : Flow) → ended_in r ≡ Going g → turned_to r d w j tb m ≡ ok (answered_in r) (world d g w j tb m)
+  turned_on : (r : Turned) (g : Flow) → ended_in r ≡ Ok g → turned_to r d w j tb m ≡ ok (answered_in r) (world d g w j tb m)
   unfolding turned_to
   turned_on (Yes c) g e = let same : c ≡ g = cc e in ap (λ (f : Flow). ok true (world d f w j tb m)) same
   turned_on (No c) g e = let same : c ≡ g = cc e in ap (λ (f : Flow). ok false (world d f w j tb m)) same
   turned_on (Off n c) g e = absurd (let z : ◌≡◌ {A = ℕ} 0 1 = cc e in omega arith)
 
-  turned_off : (r : Turned) (n : Refusal) (g : Flow) → ended_in r ≡ Refused n g → turned_to r d w j tb m ≡ no (refusal_number n) (world d g w j tb m)
+  turned_off : (r : Turned) (n : Refusal) (g : Flow) → ended_in r ≡ Err (record { why = n; at = g }) → turned_to r d w j tb m ≡ no (refusal_number n) (world d g w j tb m)
   unfolding turned_to
   turned_off (Yes c) n g e = absurd (let z : ◌≡◌ {A = ℕ} 0 1 = cc e in omega arith)
   turned_off (No c) n g e = absurd (let z : ◌≡◌ {A = ℕ} 0 1 = cc e in omega arith)
@@ -253,7 +253,7 @@ pub record Stands (base : ℕ) (lent : Lent) (time pace : ℕ) (o : List ℕ) (d
 module _ {base : ℕ} {lent : Lent} {time pace : ℕ} {o : List ℕ} {d : Device} {whole : Out (Unit {0})} {k : Kept} {s : Flow} {w j tb b m p : List ℕ} {left : ℕ}
     (at : Stands base lent time pace o d whole k s w j tb b m p left)
   where
-    pub chips_out : left ≤ 0 → came_to (Going s) (around d b p) w j tb m ≡ whole
+    pub chips_out : left ≤ 0 → came_to (Ok s) (around d b p) w j tb m ≡ whole
     unfolding came_to chip_turns go
     chips_out e = let z : left ≡ 0 = omega arith in rw z at at.rest
 
@@ -268,7 +268,7 @@ module _ {base : ℕ} {lent : Lent} {time pace : ℕ} {o : List ℕ} {d : Device
       unfolding ready_at
       seen c h = ap (λ (x : ℕ). has x c) is ∙ ready_seen s.scalars.erq s.scalars.standing time k tb b p at.sees c h
 
-      pub chips_stop : mask ≡ 0 → came_to (Going s) (around d b p) w j tb m ≡ whole
+      pub chips_stop : mask ≡ 0 → came_to (Ok s) (around d b p) w j tb m ≡ whole
       unfolding came_to
       chips_stop e = sym (chips_none base lent time pace u at.proper.size k.past mask seen (left - 1) e) ∙ from_here
 
@@ -281,7 +281,7 @@ module _ {base : ℕ} {lent : Lent} {time pace : ℕ} {o : List ℕ} {d : Device
           did_so : turned_to r (around d b' p') w' j' tb' m' ≡ go base lent (chip_turn time pace ch) (turning d s w j tb b m p)
           did_so = rw same at (did.does d)
 
-          pub chips_refused : {n : Refusal} {g : Flow} → e ≡ Refused n g → came_to e (around d b' p') w' j' tb' m' ≡ whole
+          pub chips_refused : {n : Refusal} {g : Flow} → e ≡ Err (record { why = n; at = g }) → came_to e (around d b' p') w' j' tb' m' ≡ whole
           unfolding came_to
           chips_refused {n} {g} z =
               rw z
@@ -289,7 +289,7 @@ module _ {base : ℕ} {lent : Lent} {time pace : ℕ} {o : List ℕ} {d : Device
               (sym did_so ∙ turned_off (around d b' p') w' j' tb' m' r n g (sym step ∙ z)))
               ∙ from_here)
 
-          module _ (g : Flow) (going : e ≡ Going g) (went : Bool) (answer : went ≡ answered_in r) (k' : Kept) (minor major : ℕ) (one : minor ≡ minor_link tb ch)
+          module _ (g : Flow) (going : e ≡ Ok g) (went : Bool) (answer : went ≡ answered_in r) (k' : Kept) (minor major : ℕ) (one : minor ≡ minor_link tb ch)
               (other : major ≡ major_link tb ch) (renewed : Renews ch minor major time went k k' tb' b' p')
             where
               renewed_so : Renews ch (minor_link tb ch) (major_link tb ch) time went k k' tb' b' p'

@@ -1,5 +1,5 @@
 -- What the functions of a turn promise: that they do their tree's steps, whatever the rest of the device is. Assumes nothing.
-use Rattle.std.specs.Prelude.{Bool, true, false, cond, List, ◌≡◌, ℕ, get_or}
+use Rattle.std.specs.Prelude.{Bool, true, false, cond, List, ◌≡◌, ℕ, get_or, Ok, Err}
 use Rattle.rules.specs.Act.{Act, done, ◌>>=◌, ◌>>◌}
 use Rattle.rules.specs.Calls.{refusal_number}
 use Rattle.rules.specs.Carry.{Out, ok, no, go, Lent}
@@ -10,7 +10,7 @@ use Rattle.rules.specs.View.{view_priorities}
 use Rattle.rules.proofs.Proper.{Proper}
 use Rattle.act.specs.Worlds.{world, came_to}
 use Rattle.act.specs.declared.Flow.{Flow}
-use Rattle.act.specs.declared.Step.{Step}
+use Rattle.act.specs.Worlds.{Step}
 use Rattle.turns.specs.Turns.{around, turning}
 use Rattle.chip.specs.declared.Turned.{Turned}
 use Rattle.chip.specs.declared.Turned.TheVariants.{Yes, No, Off}
@@ -23,9 +23,9 @@ turned_to (Off r c) d w j t m = no (refusal_number r) (world d c w j t m)
 
 -- the step that it was, and its answer
 abbrev pub ended_in : Turned → Step
-ended_in (Yes c) = Step.Going c
-ended_in (No c) = Step.Going c
-ended_in (Off r c) = Step.Refused r c
+ended_in (Yes c) = Ok c
+ended_in (No c) = Ok c
+ended_in (Off r c) = Err (record { why = r; at = c })
 
 abbrev pub answered_in : Turned → Bool
 answered_in (Yes c) = true

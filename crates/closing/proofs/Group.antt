@@ -1,4 +1,5 @@
 -- A group's last records as a whole: they fit, all of them with the end record, or the act is not made. Assumes nothing.
+use Rattle.std.specs.Prelude.{Some, None}
 use mathlib.Core.Bool.{Bool, true, false}
 use mathlib.Core.List.{List, [], ◌∷◌, ◌++◌}
 use mathlib.Core.Path.{◌≡◌, refl, sym, ap, ◌∙◌, subst}
@@ -18,20 +19,19 @@ use Rattle.rules.proofs.Back.{length_rec, length_lines, length_end}
 use Rattle.rules.proofs.BytesLaws.{length_splice, splice_comm, splice_append}
 use Rattle.rules.proofs.Cut.{splice_cut}
 use Rattle.closing.specs.Closes.{Noting, noting, add, add_all, add_end, closed, Closes}
-use Rattle.closing.specs.declared.Noted.{Noted}
-use Rattle.closing.specs.declared.Noted.TheVariants.{At, Full}
+use Rattle.closing.specs.Closes.{Noted}
 use Rattle.closing.proofs.Laws.{all_full, add-no, add_yes}
 
 -- ---- all of them fit
 
 all_fit : (rs : List Rec) (at : ℕ) (j : List ℕ) → at + 16 * length rs ≤ length j
-    → add_all rs (noting (At at) j) ≡ noting (At (at + 16 * length rs)) (splice j at (lines_of rs))
+    → add_all rs (noting (Some at) j) ≡ noting (Some (at + 16 * length rs)) (splice j at (lines_of rs))
 unfolding add_all lines_of splice
 all_fit [] at j k = rw add-zero
 all_fit (r ∷ rs) at j k =
     let l : List ℕ = line_of r in
     let n : length l ≡ 16 = length_rec r in
-    let one : add l (noting (At at) j) ≡ noting (At (at + 16)) (splice j at l) = sym (add_yes l j at (omega arith) refl) in
+    let one : add l (noting (Some at) j) ≡ noting (Some (at + 16)) (splice j at l) = sym (add_yes l j at (omega arith) refl) in
     let e : at + 16 + 16 * length rs ≡ at + 16 * suc (length rs) = omega arith in
     let joined : splice (splice j at l) (at + 16) (lines_of rs) ≡ splice j at (l ++ lines_of rs) =
     splice_comm j at l (at + 16) (lines_of rs) (omega arith) ∙ ap (λ (m : ℕ). splice (splice j (at + m) (lines_of rs)) at l) (sym n) ∙ sym (splice_append j at l (lines_of rs)) in
@@ -42,41 +42,41 @@ all_fit (r ∷ rs) at j k =
 place : Noting → Noted
 place (noting t j) = t
 
-too_many : (used : ℕ) (rs : List Rec) (at : ℕ) (j : List ℕ) → length j < at + 16 * suc (length rs) → place (add_end used (add_all rs (noting (At at) j))) ≡ Full
+too_many : (used : ℕ) (rs : List Rec) (at : ℕ) (j : List ℕ) → length j < at + 16 * suc (length rs) → place (add_end used (add_all rs (noting (Some at) j))) ≡ None
 unfolding add_all add_end place
 too_many used [] at j k = ap place (sym (add-no (end_line ((at - used) / 16)) j at (omega arith)))
 too_many used (r ∷ rs) at j k =
     by (leb (at + 16) (length j)) refl (too_many used rs (at + 16) (splice j at (line_of r)) (omega (arith, length_splice j at (line_of r))))
   where
-    by : (t : Bool) → leb (at + 16) (length j) ≡ t → place (add_end used (add_all rs (noting (At (at + 16)) (splice j at (line_of r))))) ≡ Full
-        → place (add_end used (add_all rs (add (line_of r) (noting (At at) j)))) ≡ Full
+    by : (t : Bool) → leb (at + 16) (length j) ≡ t → place (add_end used (add_all rs (noting (Some (at + 16)) (splice j at (line_of r))))) ≡ None
+        → place (add_end used (add_all rs (add (line_of r) (noting (Some at) j)))) ≡ None
     by true q rest = rw (← add_yes (line_of r) j at (leb-true _ _ q) refl) rest
     by false q rest = rw (← add-no (line_of r) j at (leb-false _ _ q), ← all_full rs j) refl
 
 -- ---- what stood in the journal before them stays
 
 abbrev Past : ℕ → Noted → Type 0
-Past n (At at) = n ≤ at
-Past n Full = Unit {0}
+Past n (Some at) = n ≤ at
+Past n None = Unit {0}
 
 -- a record that was added stands within the journal
 abbrev Inside : Noting → Type 0
-Inside (noting (At at) j) = at ≤ length j
-Inside (noting Full j) = Unit {0}
+Inside (noting (Some at) j) = at ≤ length j
+Inside (noting None j) = Unit {0}
 
 add-inside : (l : List ℕ) (s : Noting) → Inside (add l s)
 unfolding add
-add-inside l (noting Full j) = tt
-add-inside l (noting (At at) j) = by (leb (at + 16) (length j)) refl
+add-inside l (noting None j) = tt
+add-inside l (noting (Some at) j) = by (leb (at + 16) (length j)) refl
   where
-    by : (t : Bool) → leb (at + 16) (length j) ≡ t → Inside (add l (noting (At at) j))
+    by : (t : Bool) → leb (at + 16) (length j) ≡ t → Inside (add l (noting (Some at) j))
     by true q = let f : at + 16 ≤ length j = leb-true _ _ q in rw (q, add) (omega (arith, length_splice j at l))
     by false q = rw (q, add) tt
 
 end_inside : (used : ℕ) (s : Noting) → Inside (add_end used s)
 unfolding add_end
-end_inside used (noting Full j) = tt
-end_inside used (noting (At at) j) = add-inside (end_line ((at - used) / 16)) (noting (At at) j)
+end_inside used (noting None j) = tt
+end_inside used (noting (Some at) j) = add-inside (end_line ((at - used) / 16)) (noting (Some at) j)
 
 record Kept (n : ℕ) (j : List ℕ) (t : Noted) (j' : List ℕ) : Type 0 where
   front : take n j' ≡ take n j
@@ -93,10 +93,10 @@ take_splice j at (x ∷ l) n h = take-set-le n (splice j (suc at) l) at x h ∙ 
 
 add-keeps : (n : ℕ) (j : List ℕ) (l : List ℕ) (s : Noting) → Keeps n j s → Keeps n j (add l s)
 unfolding add
-add-keeps n j l (noting Full j') k = k
-add-keeps n j l (noting (At at) j') k = by (leb (at + 16) (length j')) refl
+add-keeps n j l (noting None j') k = k
+add-keeps n j l (noting (Some at) j') k = by (leb (at + 16) (length j')) refl
   where
-    by : (t : Bool) → leb (at + 16) (length j') ≡ t → Keeps n j (add l (noting (At at) j'))
+    by : (t : Bool) → leb (at + 16) (length j') ≡ t → Keeps n j (add l (noting (Some at) j'))
     by true q = rw (q, add) record {
       front = take_splice j' at l n k.past ∙ k.front;
       long = length_splice j' at l ∙ k.long;
@@ -111,8 +111,8 @@ all_keep n j (r ∷ rs) s k = all_keep n j rs (add (line_of r) s) (add-keeps n j
 
 end_keeps : (n used : ℕ) (j : List ℕ) (s : Noting) → Keeps n j s → Keeps n j (add_end used s)
 unfolding add_end
-end_keeps n used j (noting Full j') k = k
-end_keeps n used j (noting (At at) j') k = add-keeps n j (end_line ((at - used) / 16)) (noting (At at) j') k
+end_keeps n used j (noting None j') k = k
+end_keeps n used j (noting (Some at) j') k = add-keeps n j (end_line ((at - used) / 16)) (noting (Some at) j') k
 
 -- ---- as `leave` has it
 
@@ -127,7 +127,7 @@ module _ (used at : ℕ) (rs : List Rec) (j : List ℕ) (h : used ≤ at) (k : a
       length-append (lines_of rs) (end_line ((at - used) / 16 + length rs))
       ∙ omega (arith, length_lines rs, length_end ((at - used) / 16 + length rs))
 
-  group_fits : at + 16 * suc (length rs) ≤ length j → add_end used (add_all rs (noting (At at) j)) ≡ noting (At (at + length last)) (splice j at last)
+  group_fits : at + 16 * suc (length rs) ≤ length j → add_end used (add_all rs (noting (Some at) j)) ≡ noting (Some (at + length last)) (splice j at last)
   unfolding add_end last
   group_fits f =
       let n : ℕ = (at - used) / 16 + length rs in
@@ -135,12 +135,12 @@ module _ (used at : ℕ) (rs : List Rec) (j : List ℕ) (h : used ≤ at) (k : a
       let count : (m - used) / 16 ≡ n = omega arith in
       let size : length (lines_of rs) ≡ 16 * length rs = omega (arith, length_lines rs) in
       let laid : List ℕ = splice j at (lines_of rs) in
-      let ended : add (end_line n) (noting (At m) laid) ≡ noting (At (m + 16)) (splice laid m (end_line n)) =
+      let ended : add (end_line n) (noting (Some m) laid) ≡ noting (Some (m + 16)) (splice laid m (end_line n)) =
       sym (add_yes (end_line n) laid m (omega (arith, length_splice j at (lines_of rs))) refl) in
       let joined : splice laid m (end_line n) ≡ splice j at (lines_of rs ++ end_line n) =
       splice_comm j at (lines_of rs) m (end_line n) (omega arith) ∙ ap (λ (x : ℕ). splice (splice j (at + x) (end_line n)) at (lines_of rs)) (sym size) ∙ sym (splice_append j at (lines_of rs) (end_line n)) in
       let e : m + 16 ≡ at + length last = omega (arith, length_last) in
-      rw (all_fit rs at j (omega arith), count, ended, joined) (ap (λ (x : ℕ). noting (At x) (splice j at (lines_of rs ++ end_line n))) e)
+      rw (all_fit rs at j (omega arith), count, ended, joined) (ap (λ (x : ℕ). noting (Some x) (splice j at (lines_of rs ++ end_line n))) e)
 
   -- in a world
   module _ (u : World) (d : Device) (w : List ℕ) (began : length u.used ≡ used) (fields : changed 0 (fields_of u.now.dev) (fields_of d) ≡ rs) where
@@ -172,7 +172,7 @@ world-within d w j at h =
     rw (take_all at j h, take_all (length j) j (omega arith), drop_of_length-le j {i = at} h, drop_of_length-le j {i = length j} (omega arith)) refl
 
 module _ (xs ys : List ℕ) (used at : ℕ) (j : List ℕ) {r : Noted} {j' : List ℕ} (h : used ≤ min at (length j))
-    (group : noting r j' ≡ add_end used (add_all (changed 0 xs ys) (noting (At at) j)))
+    (group : noting r j' ≡ add_end used (add_all (changed 0 xs ys) (noting (Some at) j)))
   where
     rs : List Rec
     rs = changed 0 xs ys
@@ -193,7 +193,7 @@ module _ (xs ys : List ℕ) (used at : ℕ) (j : List ℕ) {r : Noted} {j' : Lis
           by : (t : Bool) → leb (at + 16 * suc (length rs)) (length j) ≡ t → closed r (tt {0}) u d w j' ≡ leave u (ok tt (world_of d w j at))
           by true t =
               let f : at + 16 * suc (length rs) ≤ length j = leb-true _ _ t in
-              let e : noting r j' ≡ noting (At (at + length (last used at rs j (omega arith) k))) (splice j at (last used at rs j (omega arith) k)) = group ∙ group_fits used at rs j (omega arith) k f in
+              let e : noting r j' ≡ noting (Some (at + length (last used at rs j (omega arith) k))) (splice j at (last used at rs j (omega arith) k)) = group ∙ group_fits used at rs j (omega arith) k f in
               rw (ap place e, ap journal_of e) (sym (made_so used at rs j (omega arith) k u d w b fields f))
           by false t = let f : length j < at + 16 * suc (length rs) = leb-false _ _ t in not_so f ∙ sym (left_out used at rs j (omega arith) k u d w b fields f)
 
@@ -210,17 +210,17 @@ module _ (xs ys : List ℕ) (used at : ℕ) (j : List ℕ) {r : Noted} {j' : Lis
     kept : Kept at j r j'
     unfolding rs
     kept =
-        let began : Kept at j (At at) j = record { front = refl; long = refl; past = omega arith } in
-        rw (← group) at (end_keeps at used j (add_all rs (noting (At at) j)) (all_keep at j rs (noting (At at) j) began))
+        let began : Kept at j (Some at) j = record { front = refl; long = refl; past = omega arith } in
+        rw (← group) at (end_keeps at used j (add_all rs (noting (Some at) j)) (all_keep at j rs (noting (Some at) j) began))
 
-    ends-inside : (e : ℕ) → r ≡ At e → e ≤ length j'
-    ends-inside e q = rw q at (subst Inside (sym group) (end_inside used (add_all (changed 0 xs ys) (noting (At at) j))))
+    ends-inside : (e : ℕ) → r ≡ Some e → e ≤ length j'
+    ends-inside e q = rw q at (subst Inside (sym group) (end_inside used (add_all (changed 0 xs ys) (noting (Some at) j))))
 
     pub group_closes : Closes r xs ys used at j j'
     group_closes = record { ends = ends_so; front = kept.front; long = kept.long; inside = ends-inside }
 
 -- where nothing could be added to begin with, nothing was
-pub all_full_so : (used : ℕ) (qs : List Rec) (j : List ℕ) {r : Noted} {j' : List ℕ} → noting r j' ≡ add_end used (add_all qs (noting Full j)) → j' ≡ j
+pub all_full_so : (used : ℕ) (qs : List Rec) (j : List ℕ) {r : Noted} {j' : List ℕ} → noting r j' ≡ add_end used (add_all qs (noting None j)) → j' ≡ j
 unfolding add_end journal_of
 all_full_so used qs j e = ap journal_of (e ∙ ap (add_end used) (sym (all_full qs j)))
 
@@ -233,8 +233,8 @@ relabel a (unmade n v) = unmade n v
 module _ {A : Type 0} (a : A) (u : World) where
   relabel_closed : (r : Noted) (d : Device) (w j : List ℕ) → relabel a (closed r (tt {0}) u d w j) ≡ closed r a u d w j
   unfolding relabel closed
-  relabel_closed (At e) d w j = refl
-  relabel_closed Full d w j = refl
+  relabel_closed (Some e) d w j = refl
+  relabel_closed None d w j = refl
 
   relabel_leave : (v : World) → relabel a (leave u (ok (tt {0}) v)) ≡ leave u (ok a v)
   unfolding relabel leave

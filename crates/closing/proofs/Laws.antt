@@ -1,4 +1,5 @@
 -- Records one after the other: one by cases, a part's fields turn by turn and block by block, part after part. Assumes nothing.
+use Rattle.std.specs.Prelude.{Some, None}
 use mathlib.Core.Bool.{Bool, true, false}
 use mathlib.Core.List.{List, [], ◌∷◌, ◌++◌}
 use mathlib.Core.Path.{◌≡◌, refl, sym, ap, ◌∙◌}
@@ -14,32 +15,31 @@ use lib.Seq.{take-suc, take_all, drop-cons, drop-drop}
 use Rattle.rules.specs.Bytes.{splice}
 use Rattle.rules.specs.Carry.{Rec, stood_in, line, line_of, end_line, changed}
 use Rattle.closing.specs.Closes.{Noting, noting, add, add_all, add_end}
-use Rattle.closing.specs.declared.Noted.{Noted}
-use Rattle.closing.specs.declared.Noted.TheVariants.{At, Full}
+use Rattle.closing.specs.Closes.{Noted}
 
 -- ---- one record, by cases
 
 module _ (l j : List ℕ) (at : ℕ) where
-  pub add-no : length j < at + 16 → noting Full j ≡ add l (noting (At at) j)
+  pub add-no : length j < at + 16 → noting None j ≡ add l (noting (Some at) j)
   unfolding add
   add-no h = rw (lt-leb _ _ h)
 
-  pub add_yes : at + 16 ≤ length j → {j' : List ℕ} → j' ≡ splice j at l → noting (At (at + 16)) j' ≡ add l (noting (At at) j)
+  pub add_yes : at + 16 ≤ length j → {j' : List ℕ} → j' ≡ splice j at l → noting (Some (at + 16)) j' ≡ add l (noting (Some at) j)
   unfolding add
   add_yes h f = rw (f, le-leb _ _ h)
 
 -- ---- records of fields: once one does not fit, nothing more happens
 
-pub all_full : (rs : List Rec) (j : List ℕ) → noting Full j ≡ add_all rs (noting Full j)
+pub all_full : (rs : List Rec) (j : List ℕ) → noting None j ≡ add_all rs (noting None j)
 unfolding add_all add
 all_full [] j = refl
 all_full (r ∷ rs) j = all_full rs j
 
-pub stays_full : (rs : List Rec) (j : List ℕ) {s : Noted} → s ≡ Full → noting Full j ≡ add_all rs (noting s j)
+pub stays_full : (rs : List Rec) (j : List ℕ) {s : Noted} → s ≡ None → noting None j ≡ add_all rs (noting s j)
 stays_full rs j e = rw e (all_full rs j)
 
 -- the place that a match told
-pub told_at : (rs : List Rec) (at : ℕ) (j : List ℕ) {s : Noted} {o : Noting} → s ≡ At at → o ≡ add_all rs (noting (At at) j) → o ≡ add_all rs (noting s j)
+pub told_at : (rs : List Rec) (at : ℕ) (j : List ℕ) {s : Noted} {o : Noting} → s ≡ Some at → o ≡ add_all rs (noting (Some at) j) → o ≡ add_all rs (noting s j)
 told_at rs at j e h = rw e h
 
 pub field_same : (n x y : ℕ) (s : Noting) → x ≡ y → s ≡ add_all (changed n (x ∷ []) (y ∷ [])) s
@@ -137,11 +137,11 @@ module _ (first : ℕ) (xs ys : List ℕ) where
       then_rest : {o : Noting} → o ≡ add_all (changed (first + i + 1) (drop (suc i) xs) (drop (suc i) ys)) (noting r j) → o ≡ add_all (changed (first + i) (drop i xs) (drop i ys)) s
       then_rest e = rw (drop-cons xs i 0 h, drop-cons ys i 0 k, ← p, ← q) (field_on (first + i) (first + i + 1) x y (drop (suc i) xs) (drop (suc i) ys) s refl one e)
 
-      pub turn : {at : ℕ} → r ≡ At at
-          → add_all (changed (first + (i + 1)) (drop (i + 1) xs) (drop (i + 1) ys)) (noting (At at) j) ≡ add_all (changed (first + i) (drop i xs) (drop i ys)) s
+      pub turn : {at : ℕ} → r ≡ Some at
+          → add_all (changed (first + (i + 1)) (drop (i + 1) xs) (drop (i + 1) ys)) (noting (Some at) j) ≡ add_all (changed (first + i) (drop i xs) (drop i ys)) s
       turn e = let n : first + (i + 1) ≡ first + i + 1 = omega arith in then_rest (rw (n, add-one i, e))
 
-      pub turn_full : r ≡ Full → noting Full j ≡ add_all (changed (first + i) (drop i xs) (drop i ys)) s
+      pub turn_full : r ≡ None → noting None j ≡ add_all (changed (first + i) (drop i xs) (drop i ys)) s
       turn_full e = then_rest (stays_full _ j e)
 
   -- all from i to e in one go
@@ -154,11 +154,11 @@ module _ (first : ℕ) (xs ys : List ℕ) where
           let n : length (between i e ys) ≡ e - i = length_between i e ys l in
           rw (cut i e xs h, cut i e ys h) (part-on (first + i) (first + e) (between i e xs) (between i e ys) (drop e xs) (drop e ys) s (m ∙ sym n) (omega arith) part f)
 
-      pub block : {at : ℕ} → r ≡ At at
-          → add_all (changed (first + e) (drop e xs) (drop e ys)) (noting (At at) j) ≡ add_all (changed (first + i) (drop i xs) (drop i ys)) s
+      pub block : {at : ℕ} → r ≡ Some at
+          → add_all (changed (first + e) (drop e xs) (drop e ys)) (noting (Some at) j) ≡ add_all (changed (first + i) (drop i xs) (drop i ys)) s
       block q = then_on (rw q)
 
-      pub block_full : r ≡ Full → noting Full j ≡ add_all (changed (first + i) (drop i xs) (drop i ys)) s
+      pub block_full : r ≡ None → noting None j ≡ add_all (changed (first + i) (drop i xs) (drop i ys)) s
       block_full q = then_on (stays_full _ j q)
 
   -- and all from i on
@@ -191,10 +191,10 @@ module _ (xs ys : List ℕ) (i o : ℕ) (so_far : o ≡ 0 → take i xs ≡ take
 
 -- ---- the end record, by cases
 
-pub end_full : (used : ℕ) (j : List ℕ) {s : Noted} → s ≡ Full → noting Full j ≡ add_end used (noting s j)
+pub end_full : (used : ℕ) (j : List ℕ) {s : Noted} → s ≡ None → noting None j ≡ add_end used (noting s j)
 unfolding add_end
 end_full used j e = rw e
 
-pub end_at_lem : (used at n : ℕ) (j : List ℕ) {s : Noted} {o : Noting} → s ≡ At at → n ≡ (at - used) / 16 → o ≡ add (line 3 0 0 n) (noting (At at) j) → o ≡ add_end used (noting s j)
+pub end_at_lem : (used at n : ℕ) (j : List ℕ) {s : Noted} {o : Noting} → s ≡ Some at → n ≡ (at - used) / 16 → o ≡ add (line 3 0 0 n) (noting (Some at) j) → o ≡ add_end used (noting s j)
 unfolding add_end end_line
 end_at_lem used at n j e f g = g ∙ rw (e, f)

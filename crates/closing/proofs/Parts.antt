@@ -14,7 +14,7 @@ use Rattle.rules.proofs.ViewLaws.{controller_viewed}
 use Rattle.act.specs.Parts.{Arrays, whole, held_at, SameLevels}
 use Rattle.act.specs.declared.Core.{Core}
 use Rattle.closing.specs.Closes.{Noting, noting, add_all, Notes, Part, core_in, levels_in, order_in}
-use Rattle.closing.specs.declared.Noted.{Noted}
+use Rattle.closing.specs.Closes.{Noted}
 use Rattle.closing.proofs.Laws.{part-on, same-on, none_changed}
 
 -- a part, then the rest

@@ -1,5 +1,5 @@
 -- The end of an act: records one after the other, until one does not fit, and what then is there. Assumes nothing.
-use Rattle.std.specs.Prelude.{cond, List, [], ◌∷◌, ◌++◌, ◌≡◌, ℕ, ◌+◌, ◌-◌, ◌/◌, ◌^◌, ◌≤◌, ◌<◌, leb, length, get_or, set, take, replicate}
+use Rattle.std.specs.Prelude.{cond, List, [], ◌∷◌, ◌++◌, ◌≡◌, ℕ, ◌+◌, ◌-◌, ◌/◌, ◌^◌, ◌≤◌, ◌<◌, leb, length, get_or, set, take, replicate, Option, Some, None}
 use Rattle.rules.specs.Bytes.{splice}
 use Rattle.rules.specs.Calls.{world_of}
 use Rattle.rules.specs.Carry.{World, Rec, line_of, end_line, changed, After, made, unmade, ok, cleared, leave}
@@ -9,10 +9,12 @@ use Rattle.rules.specs.State.{Device}
 use Rattle.rules.specs.View.{view_priorities}
 use Rattle.act.specs.Parts.{Arrays, held_at}
 use Rattle.act.specs.declared.Core.{Core}
-use Rattle.closing.specs.declared.Noted.{Noted}
-use Rattle.closing.specs.declared.Noted.TheVariants.{At, Full}
 
 -- ---- records, one after the other
+
+-- where the next record goes; or nowhere, since one did not fit
+abbrev pub Noted : Type 0
+Noted = Option ℕ
 
 -- where the next record goes, and the journal
 pub data Noting : Type 0 where
@@ -20,8 +22,8 @@ pub data Noting : Type 0 where
 
 -- one record more; one that does not fit leaves the journal as it is
 unfoldable pub add : List ℕ → Noting → Noting
-add l (noting Full j) = noting Full j
-add l (noting (At at) j) = cond (leb (at + 16) (length j)) (noting (At (at + 16)) (splice j at l)) (noting Full j)
+add l (noting None j) = noting None j
+add l (noting (Some at) j) = cond (leb (at + 16) (length j)) (noting (Some (at + 16)) (splice j at l)) (noting None j)
 
 unfoldable pub add_all : List Rec → Noting → Noting
 add_all [] s = s
@@ -29,8 +31,8 @@ add_all (r ∷ rs) s = add_all rs (add (line_of r) s)
 
 -- the end of the group that began at `used`
 unfoldable pub add_end : ℕ → Noting → Noting
-add_end used (noting Full j) = noting Full j
-add_end used (noting (At at) j) = add (end_line ((at - used) / 16)) (noting (At at) j)
+add_end used (noting None j) = noting None j
+add_end used (noting (Some at) j) = add (end_line ((at - used) / 16)) (noting (Some at) j)
 
 -- ---- promises of the functions that add records; j and j' are the journal at entry and at exit
 
@@ -71,8 +73,8 @@ order_in x = view_priorities x.chip x.priorities
 -- ---- how an act that began at u and reached device d ends: made, or refused for want of room
 
 unfoldable pub closed : {A : Type 0} → Noted → A → World → Device → List ℕ → List ℕ → After A World
-closed (At e) a u d w j = made a (world_of d w j e)
-closed Full a u d w j = unmade 11 (cleared u)
+closed (Some e) a u d w j = made a (world_of d w j e)
+closed None a u d w j = unmade 11 (cleared u)
 
 -- what the end of an act promises, of every world that it began in with the fields xs, and every device that it reached with the fields ys;
 -- and the journal is the same below `at`, also where a record did not fit, and does not end past its last byte. (`closes` of proofs/Group has
@@ -82,4 +84,4 @@ pub record Closes (r : Noted) (xs ys : List ℕ) (used at : ℕ) (j j' : List �
       → closed r (tt {0}) u d w j' ≡ leave u (ok tt (world_of d w j at))
   pub front : take at j' ≡ take at j
   pub long : length j' ≡ length j
-  pub inside : (e : ℕ) → r ≡ At e → e ≤ length j'
+  pub inside : (e : ℕ) → r ≡ Some e → e ≤ length j'

@@ -4,7 +4,7 @@
 // are the same. Only the end of the chain tells whether the act is made or refused.
 #![tactic(auto)]
 
-ghost use Rattle.std.specs.Prelude.{true, false, ◌∷◌, [], ◌≡◌, ◌<◌, length};
+ghost use Rattle.std.specs.Prelude.{Some, true, false, ◌∷◌, [], ◌≡◌, ◌<◌, length};
 ghost use Rattle.rules.specs.View.{view_controller};
 ghost use Rattle.rules.specs.Carry.{line};
 ghost use Rattle.rules.specs.Scalars.{view_scalars};
@@ -12,38 +12,33 @@ ghost use Rattle.rules.specs.Fields.{masks_of};
 ghost use Rattle.rules.proofs.Proper.{Proper};
 ghost use Rattle.act.specs.Lent.{◌⇒◌};
 ghost use Rattle.act.specs.Parts.{Arrays, whole, SameLevels};
-ghost use Rattle.closing.specs.declared.Noted.TheVariants.{At};
 ghost use Rattle.closing.specs.Closes.{noting, add, add_end, Notes, NotesOne, Part, Noteworthy, core_in, levels_in};
 
 use act::Core;
 use rules::{Controller, Scalars};
 
-// Where the next record goes, or that one did not fit: then nothing more happens.
-#[derive(Clone, Copy)]
-pub enum Noted {
-    At(usize),
-    Full,
-}
+// Where the next record goes; or nowhere, since one did not fit: then nothing more happens.
+pub type Noted = Option<usize>;
 
 // ---- one record
 
 // "11 | the next record doesn't fit": then the journal stays as it is.
 fn note(at: usize, kind: u8, width: u8, place: u32, value: u64, journal: &mut [u8]) -> Noted
-    ensures { noting result journal.new ≡ add (line kind width place value) (noting (At at) journal.old) }
+    ensures { noting result journal.new ≡ add (line kind width place value) (noting (Some at) journal.old) }
 {
     if !journal::has_room(journal, at) {
-        return Noted::Full;
+        return None;
     }
     journal::put_record(journal, at, kind, width, place, value);
-    Noted::At(at + 16)
+    Some(at + 16)
 }
 
 // "Kind 2: field (8; number)", with the old value: of field `n`, if it differs.
 fn note_one(at: usize, n: u32, before: u64, after: u64, journal: &mut [u8]) -> Noted
-    ensures { Notes n (before ∷ []) (after ∷ []) (At at) result ⇒ journal }
+    ensures { Notes n (before ∷ []) (after ∷ []) (Some at) result ⇒ journal }
 {
     if before == after {
-        return Noted::At(at);
+        return Some(at);
     }
     note(at, 2, 8, n, before, journal)
 }
@@ -52,9 +47,7 @@ fn note_one(at: usize, n: u32, before: u64, after: u64, journal: &mut [u8]) -> N
 fn note_field(s: Noted, n: u32, before: u64, after: u64, journal: &mut [u8]) -> Noted
     ensures { Notes n (before ∷ []) (after ∷ []) s result ⇒ journal }
 {
-    let Noted::At(at) = s else {
-        return Noted::Full;
-    };
+    let at = s?;
     note_one(at, n, before, after, journal)
 }
 
@@ -62,9 +55,7 @@ fn note_field(s: Noted, n: u32, before: u64, after: u64, journal: &mut [u8]) -> 
 pub fn note_end(s: Noted, used: usize, journal: &mut [u8]) -> Noted
     ensures { noting result journal.new ≡ add_end used (noting s journal.old) }
 {
-    let Noted::At(at) = s else {
-        return Noted::Full;
-    };
+    let at = s?;
     let records = journal::span(used, at) / 16;
     note(at, 3, 0, 0, records as u64, journal)
 }
@@ -79,18 +70,15 @@ const BLOCK: usize = 16;
 
 fn note_each_wide(at: usize, before: &[u64], after: &[u64], first: u32, journal: &mut [u8]) -> Noted
     requires { Noteworthy first before.now after.now }
-    ensures { Notes first before.now after.now (At at) result ⇒ journal }
+    ensures { Notes first before.now after.now (Some at) result ⇒ journal }
 {
     let mut end = at;
     let mut i = 0;
     while i < before.len() {
-        let Noted::At(next) = note_one(end, first + i as u32, before[i], after[i], journal) else {
-            return Noted::Full;
-        };
-        end = next;
+        end = note_one(end, first + i as u32, before[i], after[i], journal)?;
         i += 1;
     }
-    Noted::At(end)
+    Some(end)
 }
 
 // Whether elements are the same is asked once, of all XORs together: a test for each costs more. (The loop goes by the length and not by BLOCK: of
@@ -116,10 +104,10 @@ fn note_wide_block(
     journal: &mut [u8],
 ) -> Noted
     requires { Noteworthy first before.now after.now }
-    ensures { Notes first before.now after.now (At at) result ⇒ journal }
+    ensures { Notes first before.now after.now (Some at) result ⇒ journal }
 {
     if same_wide(before, after) {
-        return Noted::At(at);
+        return Some(at);
     }
     note_each_wide(at, before, after, first, journal)
 }
@@ -128,19 +116,14 @@ fn note_wides(s: Noted, before: &[u64], after: &[u64], first: u32, journal: &mut
     requires { Noteworthy first before.now after.now }
     ensures { Notes first before.now after.now s result ⇒ journal }
 {
-    let Noted::At(start) = s else {
-        return Noted::Full;
-    };
+    let start = s?;
     let mut at = start;
     let mut i = 0;
     while i + BLOCK <= before.len() {
         let end = i + BLOCK;
         let b = &before[i..end];
         let a = &after[i..end];
-        let Noted::At(next) = note_wide_block(at, b, a, first + i as u32, journal) else {
-            return Noted::Full;
-        };
-        at = next;
+        at = note_wide_block(at, b, a, first + i as u32, journal)?;
         i = end;
     }
     note_each_wide(at, &before[i..], &after[i..], first + i as u32, journal)
@@ -154,24 +137,21 @@ fn wide32(x: u32) -> u64
 
 fn note_each_word(at: usize, before: &[u32], after: &[u32], first: u32, journal: &mut [u8]) -> Noted
     requires { Noteworthy first before.now after.now }
-    ensures { Notes first before.now after.now (At at) result ⇒ journal }
+    ensures { Notes first before.now after.now (Some at) result ⇒ journal }
 {
     let mut end = at;
     let mut i = 0;
     while i < before.len() {
-        let Noted::At(next) = note_one(
+        end = note_one(
             end,
             first + i as u32,
             wide32(before[i]),
             wide32(after[i]),
             journal,
-        ) else {
-            return Noted::Full;
-        };
-        end = next;
+        )?;
         i += 1;
     }
-    Noted::At(end)
+    Some(end)
 }
 
 fn same_word(before: &[u32], after: &[u32]) -> bool
@@ -195,10 +175,10 @@ fn note_word_block(
     journal: &mut [u8],
 ) -> Noted
     requires { Noteworthy first before.now after.now }
-    ensures { Notes first before.now after.now (At at) result ⇒ journal }
+    ensures { Notes first before.now after.now (Some at) result ⇒ journal }
 {
     if same_word(before, after) {
-        return Noted::At(at);
+        return Some(at);
     }
     note_each_word(at, before, after, first, journal)
 }
@@ -207,19 +187,14 @@ fn note_words(s: Noted, before: &[u32], after: &[u32], first: u32, journal: &mut
     requires { Noteworthy first before.now after.now }
     ensures { Notes first before.now after.now s result ⇒ journal }
 {
-    let Noted::At(start) = s else {
-        return Noted::Full;
-    };
+    let start = s?;
     let mut at = start;
     let mut i = 0;
     while i + BLOCK <= before.len() {
         let end = i + BLOCK;
         let b = &before[i..end];
         let a = &after[i..end];
-        let Noted::At(next) = note_word_block(at, b, a, first + i as u32, journal) else {
-            return Noted::Full;
-        };
-        at = next;
+        at = note_word_block(at, b, a, first + i as u32, journal)?;
         i = end;
     }
     note_each_word(at, &before[i..], &after[i..], first + i as u32, journal)
@@ -233,24 +208,21 @@ fn wide8(x: u8) -> u64
 
 fn note_each_byte(at: usize, before: &[u8], after: &[u8], first: u32, journal: &mut [u8]) -> Noted
     requires { Noteworthy first before.now after.now }
-    ensures { Notes first before.now after.now (At at) result ⇒ journal }
+    ensures { Notes first before.now after.now (Some at) result ⇒ journal }
 {
     let mut end = at;
     let mut i = 0;
     while i < before.len() {
-        let Noted::At(next) = note_one(
+        end = note_one(
             end,
             first + i as u32,
             wide8(before[i]),
             wide8(after[i]),
             journal,
-        ) else {
-            return Noted::Full;
-        };
-        end = next;
+        )?;
         i += 1;
     }
-    Noted::At(end)
+    Some(end)
 }
 
 fn same_byte(before: &[u8], after: &[u8]) -> bool
@@ -268,10 +240,10 @@ fn same_byte(before: &[u8], after: &[u8]) -> bool
 
 fn note_byte_block(at: usize, before: &[u8], after: &[u8], first: u32, journal: &mut [u8]) -> Noted
     requires { Noteworthy first before.now after.now }
-    ensures { Notes first before.now after.now (At at) result ⇒ journal }
+    ensures { Notes first before.now after.now (Some at) result ⇒ journal }
 {
     if same_byte(before, after) {
-        return Noted::At(at);
+        return Some(at);
     }
     note_each_byte(at, before, after, first, journal)
 }
@@ -280,19 +252,14 @@ fn note_bytes(s: Noted, before: &[u8], after: &[u8], first: u32, journal: &mut [
     requires { Noteworthy first before.now after.now }
     ensures { Notes first before.now after.now s result ⇒ journal }
 {
-    let Noted::At(start) = s else {
-        return Noted::Full;
-    };
+    let start = s?;
     let mut at = start;
     let mut i = 0;
     while i + BLOCK <= before.len() {
         let end = i + BLOCK;
         let b = &before[i..end];
         let a = &after[i..end];
-        let Noted::At(next) = note_byte_block(at, b, a, first + i as u32, journal) else {
-            return Noted::Full;
-        };
-        at = next;
+        at = note_byte_block(at, b, a, first + i as u32, journal)?;
         i = end;
     }
     note_each_byte(at, &before[i..], &after[i..], first + i as u32, journal)

@@ -1,7 +1,7 @@
 -- The acts of `specs/Lines.antt` of rules on a device: what they answer and leave, said of its controllers. Assumes nothing.
-use Rattle.std.proofs.Common.{◌≡◌, ℕ, zero, suc, ◌+◌, ◌%◌, ◌^◌, ◌<◌, max, Bool, List, [], ◌∷◌, map, length, get_or, set, sym, refl, ap, ◌∙◌, subst, mod-lt, arith, lit<, ext_get_or, pow_pos, eq-eqb, ne_eqb}
+use Rattle.std.proofs.Common.{◌≡◌, ℕ, zero, suc, ◌+◌, ◌%◌, ◌^◌, ◌<◌, max, Bool, List, [], ◌∷◌, map, length, get_or, set, sym, refl, ap, ◌∙◌, subst, mod-lt, arith, lit<, ext_get_or, pow_pos, eq-eqb, ne_eqb, Some, None}
 use Rattle.rules.specs.State.{Controller, Device}
-use Rattle.rules.specs.declared.Heard.{Heard}
+use Rattle.rules.specs.Verdicts.{Heard}
 use Rattle.rules.specs.Act.{acts, put, LINES, SOURCE, TAKEN}
 use Rattle.rules.specs.Scalars.{INT, LEVEL}
 use Rattle.rules.specs.Bytes.{part}
@@ -159,12 +159,12 @@ same-levels k l three x y z p q r e = record { first = at 0 (lit< tt); second = 
 -- ---- acknowledge
 
 module _ (d : Device) (l i : ℕ) where
-  pub hear-nothing : l ≡ 0 → Answers (hear (l, i)) d Heard.Nothing d
+  pub hear-nothing : l ≡ 0 → Answers (hear (l, i)) d None d
   unfolding hear
   hear-nothing e = rw (eq-eqb l 0 e) (answers-done d _)
 
   -- the taken count rises, and wraps at 2^64
-  pub hear_source : {n v : ℕ} → (l ≡ 0 → ⊥) → v ≡ (holds (TAKEN i) d + 1) % 2 ^ 64 → n ≡ 64 + i → Answers (hear (l, i)) d (Heard.Source l n) (with_field (TAKEN i) v d)
+  pub hear_source : {n v : ℕ} → (l ≡ 0 → ⊥) → v ≡ (holds (TAKEN i) d + 1) % 2 ^ 64 → n ≡ 64 + i → Answers (hear (l, i)) d (Some (record { level = l; vector = n })) (with_field (TAKEN i) v d)
   unfolding hear bits_of
   hear_source {v = v} h e f =
       rw (ne_eqb l 0 h, f, e)

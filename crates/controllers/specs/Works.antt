@@ -3,7 +3,7 @@ use Rattle.std.specs.Prelude.{ℕ, List}
 use Rattle.rules.specs.Act.{Act}
 use Rattle.rules.specs.With.{with_taken}
 use Rattle.rules.specs.State.{Device}
-use Rattle.rules.specs.declared.Heard.{Heard}
+use Rattle.rules.specs.Verdicts.{Heard}
 use Rattle.rules.proofs.Proper.{Proper}
 use Rattle.act.specs.Does.{Answers, Does}
 use Rattle.act.specs.Parts.{Arrays, whole, SameLevels}

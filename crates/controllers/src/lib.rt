@@ -222,7 +222,7 @@ fn hear(loud: Loud, taken: &mut [u64; 192]) -> Heard
     ensures { Hears (hear (found loud)) result ⇒ taken }
 {
     if loud.level == 0 {
-        return Heard::Nothing;
+        return None;
     }
     let at = loud.at;
     taken[at] = std::num::wrapping_add_u64(taken[at], 1);

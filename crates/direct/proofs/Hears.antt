@@ -9,7 +9,7 @@ use Rattle.rules.specs.Act.{Field, SCALAR, MASKS, FORCED, LINES, CONFIG, BUSY, M
 use Rattle.rules.specs.Calls.{ack, stops, act_of, device_told, told_after, world_of, after}
 use Rattle.rules.specs.Carry.{World, Out, ok, no, made, unmade, with_device, last_lines, written, cleared, leave, perform, lending}
 use Rattle.rules.specs.State.{Device}
-use Rattle.rules.specs.declared.Heard.{Heard}
+use Rattle.rules.specs.Verdicts.{Heard}
 use Rattle.rules.proofs.CallLaws.{either_way}
 use Rattle.rules.proofs.Each.{Rights, Properly, each_keeps}
 use Rattle.rules.proofs.Proper.{Proper}

@@ -1,4 +1,5 @@
 -- The laws that the proofs of this crate cite: an entry, once its call has been made. Assumes nothing.
+use Rattle.std.specs.Prelude.{None, Ok, Err}
 use mathlib.Core.Bool.{true, false}
 use mathlib.Core.List.{List, []}
 use mathlib.Core.Path.{◌≡◌, refl, sym, ap, ◌∙◌}
@@ -13,8 +14,8 @@ use Rattle.rules.specs.State.{Device}
 use Rattle.rules.specs.View.{view_priorities, view}
 use Rattle.rules.specs.declared.Acted.{Acted}
 use Rattle.rules.specs.declared.Device.{Device as HeldDevice}
-use Rattle.rules.specs.declared.Heard.{Heard}
-use Rattle.rules.specs.declared.Verdict.{Verdict}
+use Rattle.rules.specs.Verdicts.{Heard}
+use Rattle.rules.specs.Verdicts.{Verdict}
 use Rattle.image.specs.Image.{image_of, device_in, is_image}
 use Rattle.act.specs.Parts.{Arrays, whole, told_done}
 use Rattle.rules.proofs.Proper.{Proper}
@@ -37,10 +38,10 @@ act_left a q s = rw (← q, s.0, s.1) refl
 
 -- and the number of a refusal is in the answer
 pub spared_answer : (v : Verdict) (used : ℕ) {held held' : List ℕ} {r : ℕ} → Spared v held held' → r ≡ packed (verdict_number v) 0 0 used → SparedBy r held held'
-spared_answer Verdict.Accepted used spared p n is =
+spared_answer (Ok tt) used spared p n is =
     let none : status_in _ ≡ 0 = ap status_in p ∙ (unpacked 0 0 0 used (lit< tt) (lit< tt)).0 in
     absurd (omega (arith, none, is))
-spared_answer (Verdict.Refused why) used spared p n is = spared why refl
+spared_answer (Err why) used spared p n is = spared why refl
 
 pub spared_device : (a : Acted) {d : HeldDevice} {held : List ℕ} {r : ℕ} → Spared a.verdict held a.device.priorities
     → (r ≡ packed (verdict_number a.verdict) 0 0 a.used) × (d ≡ a.device) → SparedBy r held d.priorities
@@ -60,10 +61,10 @@ done-left c h k a y x base w s j w' s' j' used {r} q p =
 
 -- the same, handed back as a struct; the core was taken from what an entry copied
 pub fed_left : (c : Asked) (k : Short) (l : Core) → l ≡ core_in k → (a : Done) (r : Fed) (y x : Arrays) (base : ℕ) (w s j w' s' j' : List ℕ) (used : ℕ)
-    → told_done Heard.Nothing a x w' s' j' ≡ after c base (whole l y) w s j used
+    → told_done None a x w' s' j' ≡ after c base (whole l y) w s j used
     → (r.answer ≡ packed (verdict_number a.verdict) 0 0 a.used) × (r.scalars ≡ a.core.scalars) × (r.controllers ≡ a.core.controllers)
     → left r.answer (whole (fed_core (core_in k) r) x) w' s' j' ≡ left_of (after c base (whole (core_in k) y) w s j used)
-fed_left c k l same a r y x base w s j w' s' j' used q p = rw (p.1, p.2) (done-left c Heard.Nothing (core_in k) a y x base w s j w' s' j' used (rw same at q) p.0)
+fed_left c k l same a r y x base w s j w' s' j' used q p = rw (p.1, p.2) (done-left c None (core_in k) a y x base w s j w' s' j' used (rw same at q) p.0)
 
 pub proper_core : (k : Short) (l : Core) (x : Arrays) → l ≡ core_in k → Proper (whole (core_in k) x) → Proper (whole l x)
 proper_core k l x same p = rw same p

@@ -1,6 +1,7 @@
 -- Demand 3 of rows of entries on a device in memory, each on what the one before it left, with the used length read off its answer: device, window
 -- and used journal are what the entries still standing, made alone in order, give; these are accepted and answer the same; and what a take-back
 -- answers. Assumes nothing.
+use Rattle.std.specs.Prelude.{None}
 use mathlib.Core.List.{List, [], ◌∷◌}
 use mathlib.Core.Logic.{◌↔◌}
 use mathlib.Core.Path.{◌≡◌, sym, ap, subst}
@@ -9,7 +10,7 @@ use lib.ListN.{length}
 use Rattle.rules.specs.Calls.{after, after_back, after_read}
 use Rattle.rules.specs.Carry.{After, made, unmade}
 use Rattle.rules.specs.State.{Device}
-use Rattle.rules.specs.declared.Heard.{Heard}
+use Rattle.rules.specs.Verdicts.{Heard}
 use Rattle.rules.proofs.Along.{Along, make_along, back_along}
 use Rattle.rules.proofs.Bench.{Held, RowCall, act, read, amiss, amiss_back, make_held, back_held}
 use Rattle.rules.proofs.Proper.{Proper}
@@ -82,7 +83,7 @@ module _ (base : ℕ) (own : Held) (opens : Opens base (itself own)) (proper : P
 
   -- where one stands, a take-back is accepted, and leads to what the others, made alone in order, give
   pub direct_last_taken_back : (row : List (Entry RowCall)) (c : RowCall × Heard) (cs : List (RowCall × Heard)) → let s = direct_row base (itself own) row in s.standing ≡ c ∷ cs
-      → (t u : DeviceShelf) × (back_direct base s.here ≡ made Heard.Nothing t) × DirectAlone base (itself own) cs u × (compared_shelf t ≡ compared_shelf u)
+      → (t u : DeviceShelf) × (back_direct base s.here ≡ made None t) × DirectAlone base (itself own) cs u × (compared_shelf t ≡ compared_shelf u)
   direct_last_taken_back =
       rows_last_taken_back (λ d. d) base own opens proper (make_direct base) (back_direct base) (same_make base (length own.window) (length own.journal) opens.room)
       (same_back base (length own.window) (length own.journal) opens.room)

@@ -20,7 +20,7 @@ use Rattle.rules.specs.Minor.{START}
 use Rattle.rules.specs.Words.{has, gain}
 use Rattle.act.specs.Does.{Does}
 use Rattle.act.specs.Worlds.{came_to, on}
-use Rattle.act.specs.declared.Step.{Step}
+use Rattle.act.specs.Worlds.{Step}
 use Rattle.act.proofs.DoesLaws.{does-change}
 use Rattle.act.proofs.Laws.{then, fetched}
 use Rattle.masks.proofs.Ranges.{never}

@@ -1,4 +1,5 @@
 -- What commands do: masks that gain and lose channels, flags of descriptors one after the other, commands in a row. Assumes nothing.
+use Rattle.std.specs.Prelude.{Ok}
 use mathlib.Core.Bool.{Bool, true}
 use mathlib.Core.List.{List}
 use mathlib.Core.Path.{◌≡◌, refl, sym, ◌∙◌}
@@ -23,8 +24,7 @@ use Rattle.rules.proofs.Masks.{without_le}
 use Rattle.act.specs.Does.{Answers, Does}
 use Rattle.act.specs.Worlds.{came_to, on}
 use Rattle.act.specs.declared.Flow.{Flow}
-use Rattle.act.specs.declared.Step.{Step}
-use Rattle.act.specs.declared.Step.TheVariants.{Going}
+use Rattle.act.specs.Worlds.{Step}
 use Rattle.act.proofs.DoesLaws.{answers_bind, answers_then, does-change}
 use Rattle.act.proofs.Laws.{on_then, then, on-nothing, fetched}
 use Rattle.controllers.specs.Waiting.{waiting_in}
@@ -80,8 +80,8 @@ module _ (base : ℕ) (lent : Lent) where
 
 module _ (base : ℕ) (lent : Lent) where
   -- what is done to the numbers that stand alone is done to the device they are taken from
-  pub numbers_done : (m : Act (Unit {0})) (d : Device) {s : Step} (c : Flow) (n : Scalars) (w j t l : List ℕ) {p : List ℕ} → s ≡ Going c → d.pending ≡ p
-      → OnNumbers m p c.scalars n → came_to (Going (record { scalars = n; at = c.at })) d w j t l ≡ on base lent m (came_to s d w j t l)
+  pub numbers_done : (m : Act (Unit {0})) (d : Device) {s : Step} (c : Flow) (n : Scalars) (w j t l : List ℕ) {p : List ℕ} → s ≡ Ok c → d.pending ≡ p
+      → OnNumbers m p c.scalars n → came_to (Ok (record { scalars = n; at = c.at })) d w j t l ≡ on base lent m (came_to s d w j t l)
   unfolding came_to on Answers
   numbers_done m d c n w j t l going e h = rw going (sym (h (with_majors (with_table d t) l) e base lent w (take c.at j) (drop c.at j)))
 

@@ -11,7 +11,7 @@ use Rattle.rules.specs.Words.{gain, lose}
 use Rattle.rules.specs.declared.Scalars.{Scalars}
 use Rattle.act.specs.Does.{Does}
 use Rattle.act.specs.Worlds.{came_to, on}
-use Rattle.act.specs.declared.Step.{Step}
+use Rattle.act.specs.Worlds.{Step}
 
 -- what a flag command does to a descriptor's last byte
 unfoldable pub flagged : Bool → ℕ → ℕ

@@ -1,4 +1,5 @@
 -- The public calls: refused by 5, 6 or 7, or carried out. Assumes nothing.
+use Rattle.std.specs.Prelude.{None, Err}
 use mathlib.Core.Bool.{Bool, true, false}
 use mathlib.Core.List.{List}
 use mathlib.Core.Path.{◌≡◌, refl, sym, ap, ◌∙◌}
@@ -8,9 +9,8 @@ use Rattle.rules.specs.Calls.{Asked, run, service, Told, told, verdict_number, l
 use Rattle.rules.specs.Carry.{perform, lending}
 use Rattle.rules.specs.Run.{run_all, service_all}
 use Rattle.rules.specs.State.{Device}
-use Rattle.rules.specs.declared.Heard.TheVariants as Heard
 use Rattle.rules.specs.declared.Refusal.{Refusal}
-use Rattle.rules.specs.declared.Verdict.{Verdict}
+use Rattle.rules.specs.Verdicts.{Verdict}
 use Rattle.rules.proofs.CallLaws.{wrong-alone, act_wrong, act_goes}
 use Rattle.rules.proofs.Told.{refusal_suc}
 use Rattle.engine.specs.Runs.{turns_of, call_of}
@@ -24,12 +24,12 @@ asked_wrong base window journal used time pace true = service-wrong base window 
 asked_wrong base window journal used time pace false = refl
 
 module _ (base : ℕ) (d : Device) (w s j : List ℕ) (used : ℕ) where
-  pub refused_told : (c : Asked) (v : Verdict) → verdict_number v ≡ wrong base (length w) (length j) used c → {n : Refusal} → v ≡ Verdict.Refused n
-      → told (verdict_number v) Heard.Nothing d w s j used ≡ after c base d w s j used
+  pub refused_told : (c : Asked) (v : Verdict) → verdict_number v ≡ wrong base (length w) (length j) used c → {n : Refusal} → v ≡ Err n
+      → told (verdict_number v) None d w s j used ≡ after c base d w s j used
   refused_told c v e {n} h =
       let k = refusal_suc n in
       let is : verdict_number v ≡ suc k.0 = ap verdict_number h ∙ k.1 in
-      ap (λ i. told i Heard.Nothing d w s j used) is ∙ sym (act_wrong base d w j used k.0 c s (sym e ∙ is))
+      ap (λ i. told i None d w s j used) is ∙ sym (act_wrong base d w j used k.0 c s (sym e ∙ is))
 
   module _ (time pace : ℕ) (x : Told) where
     run-told : wrong base (length w) (length j) used (run time pace) ≡ 0

@@ -1,4 +1,5 @@
 -- How a call ends whose turns came to a world: rolled back where it is refused, and closed where it is not. Assumes nothing.
+use Rattle.std.specs.Prelude.{None, Ok, Err}
 use mathlib.Core.Bool.{Bool}
 use mathlib.Core.List.{List}
 use mathlib.Core.Path.{◌≡◌, refl, sym, ap, ◌∙◌, subst}
@@ -12,9 +13,9 @@ use Rattle.rules.specs.Calls.{told, refusal_number, levelled, world_of, told_aft
 use Rattle.rules.specs.Carry.{Machine, World, changed, go, unmade, cleared, perform, Lent, lending}
 use Rattle.rules.specs.Fields.{fields_of}
 use Rattle.rules.specs.State.{Device}
-use Rattle.rules.specs.declared.Heard.{Heard}
+use Rattle.rules.specs.Verdicts.{Heard}
 use Rattle.rules.specs.declared.Refusal.{Refusal}
-use Rattle.rules.specs.declared.Verdict.{Verdict}
+use Rattle.rules.specs.Verdicts.{Verdict}
 use Rattle.rules.proofs.Proper.{Proper}
 use Rattle.rules.proofs.Keeps.{AtEnd, Good}
 use Rattle.rules.proofs.Took.{Underway, go_underway}
@@ -24,13 +25,12 @@ use Rattle.act.specs.Worlds.{world, came_to, flow_of, walk_of}
 use Rattle.act.specs.declared.Core.{Core}
 use Rattle.act.specs.declared.Done.{Done}
 use Rattle.act.specs.declared.Flow.{Flow}
-use Rattle.act.specs.declared.Step.{Step}
-use Rattle.act.specs.declared.Step.TheVariants.{Going, Refused}
-use Rattle.act.specs.declared.Walk.{Walk}
+use Rattle.act.specs.Worlds.{Step}
+use Rattle.act.specs.Worlds.{Walk}
 use Rattle.journal.specs.Undoing.{machine_of, RolledBack}
 use Rattle.journal.proofs.Back.{rolled_stores, rolled_journal}
 use Rattle.closing.specs.Closes.{noting, add_all, add_end, Notes, Part, core_in}
-use Rattle.closing.specs.declared.Noted.{Noted}
+use Rattle.closing.specs.Closes.{Noted}
 use Rattle.closing.proofs.Parts.{same-part, same_taken, all_noted}
 use Rattle.acting.specs.Ending.{Settled, Settles, begun_at, end_at, done_by, remaining, refused_by}
 use Rattle.acting.specs.declared.Reached.{Reached}
@@ -40,8 +40,8 @@ use Rattle.engine.specs.Runs.{RunsAll, Begins, turns_of, Ended, EndsTurns}
 -- ---- the last records of an act of turns
 
 ends_where : (s₀ : Step) {q : Walk} → q ≡ walk_of s₀ → end_at q ≡ (flow_of s₀).at
-ends_where (Going c) e = ap end_at e
-ends_where (Refused r c) e = ap end_at e
+ends_where (Ok c) e = ap end_at e
+ends_where (Err stopped) e = ap end_at e
 
 module _ (k : Core) (s : Reached) (x : Arrays) (tb tb' b b' m m' p p' : List ℕ) (used : ℕ) (j : List ℕ) {n₀ t₁ t₂ t₃ t₄ n : Noted} {j₁ j₂ j₃ j₄ j₅ : List ℕ}
     (begins : n₀ ≡ begun_at s.walk) (core : Notes 0 (core_in k) (core_in s.core) n₀ t₁ j j₁) (times : Part 64 64 b b' t₁ t₂ j₁ j₂) (counts : Part 64 128 m m' t₂ t₃ j₂ j₃)
@@ -64,18 +64,18 @@ module _ (k : Core) (s : Reached) (x : Arrays) (tb tb' b b' m m' p p' : List ℕ
 
     pub turns-ended : Ended k before after s₀ r base lent act w j₀ w' j j₅ used
     turns-ended = record {
-      told_made = λ z v. told_made k before after Heard.Nothing used w j₀ w' j j₅ fits went.since base lent (levelled act) s n went.later went.left noted r is z v;
-      told_unmade = λ why v. told_unmade k before after Heard.Nothing used w j₀ w' j j₅ fits went.since base lent (levelled act) s n went.later went.left noted r is v;
-      core_kept = λ why v. core_kept k before after Heard.Nothing used w j₀ w' j j₅ fits went.since base lent (levelled act) s n went.later went.left noted r is v;
-      front = subst (λ (at : ℕ). take at j₅ ≡ take at j) (ends_where s₀ went.ends) (front_then k before after Heard.Nothing used w j₀ w' j j₅ fits went.since base lent (levelled act) s n went.later went.left noted);
-      long = sym (since_then k before after Heard.Nothing used w j₀ w' j j₅ fits went.since base lent (levelled act) s n went.later went.left noted).long ∙ went.since.long;
+      told_made = λ z v. told_made k before after None used w j₀ w' j j₅ fits went.since base lent (levelled act) s n went.later went.left noted r is z v;
+      told_unmade = λ why v. told_unmade k before after None used w j₀ w' j j₅ fits went.since base lent (levelled act) s n went.later went.left noted r is v;
+      core_kept = λ why v. core_kept k before after None used w j₀ w' j j₅ fits went.since base lent (levelled act) s n went.later went.left noted r is v;
+      front = subst (λ (at : ℕ). take at j₅ ≡ take at j) (ends_where s₀ went.ends) (front_then k before after None used w j₀ w' j j₅ fits went.since base lent (levelled act) s n went.later went.left noted);
+      long = sym (since_then k before after None used w j₀ w' j j₅ fits went.since base lent (levelled act) s n went.later went.left noted).long ∙ went.since.long;
     }
 
 -- where a step came to
 at_step : (P : World → Type 0) (s : Step) (d : Device) (w j t m : List ℕ) → AtEnd P (came_to s d w j t m) → P (world d (flow_of s) w j t m)
 unfolding came_to
-at_step P (Going c) d w j t m h = h
-at_step P (Refused r c) d w j t m h = h
+at_step P (Ok c) d w j t m h = h
+at_step P (Err stopped) d w j t m h = h
 
 -- ---- an act that began with d, w, j and came to s, w', j': rolled back
 
@@ -117,7 +117,7 @@ module _ (base : ℕ) (lent : Lent) (act : Act (Unit {0})) (d : Device) (w j : L
         table_back = ap (λ (x : Machine). x.dev.table) stores_back
 
         pub told_back : (z : List ℕ) (n : ℕ) → perform base lent (levelled act) u ≡ unmade n (cleared u)
-            → told n Heard.Nothing d w'' z j'' used ≡ told_after z used (perform base lent (levelled act) u)
+            → told n None d w'' z j'' used ≡ told_after z used (perform base lent (levelled act) u)
         unfolding told_after cleared
         told_back z n p =
             rw (p, window_back, rolled_journal j₂ (take used j) way.log used at (front ∙ way.used_is) begun d w j refl (same ∙ long) back.journal_is)
@@ -149,18 +149,18 @@ module _ (again chip : Bool) (o : List ℕ) (time pace base : ℕ) (k : Core) (y
     ended : Ended k old new r q base lends (turns_of again time pace) w j w' j' j₂ used
     ended = (rw (same-b, same-m, same-p) at closes) x tb tb' r base lends (turns_of again time pace) w j w' proper fits (settles new base lends (turns_of again time pace) (whole k old) w j w' j' used proper fits goes)
 
-    pub carried_made : q.verdict ≡ Verdict.Accepted
-        → told_done Heard.Nothing q (remaining q.verdict (working x tb' b m p) new) w' s' j₂ ≡ told_after (replicate (length s) 0) used (perform base lends (levelled (turns_of again time pace)) (world_of (whole k old) w j used))
-    carried_made v = rw ran.cleared_staging (stands_new q (working x tb' b m p) new Heard.Nothing w' (replicate (length s) 0) j₂ v (ended.told_made (replicate (length s) 0) v))
+    pub carried_made : q.verdict ≡ (Ok tt)
+        → told_done None q (remaining q.verdict (working x tb' b m p) new) w' s' j₂ ≡ told_after (replicate (length s) 0) used (perform base lends (levelled (turns_of again time pace)) (world_of (whole k old) w j used))
+    carried_made v = rw ran.cleared_staging (stands_new q (working x tb' b m p) new None w' (replicate (length s) 0) j₂ v (ended.told_made (replicate (length s) 0) v))
 
-    pub carried_unmade : {why : Refusal} → q.verdict ≡ Verdict.Refused why → (w'' t'' j'' : List ℕ) {at : ℕ} → at ≡ (flow_of r).at → RolledBack base used at w' w'' tb' t'' j₂ j''
-        → told_done Heard.Nothing q (remaining q.verdict (working x t'' b m p) (working x t'' b' m' p')) w'' s' j''
+    pub carried_unmade : {why : Refusal} → q.verdict ≡ Err why → (w'' t'' j'' : List ℕ) {at : ℕ} → at ≡ (flow_of r).at → RolledBack base used at w' w'' tb' t'' j₂ j''
+        → told_done None q (remaining q.verdict (working x t'' b m p) (working x t'' b' m' p')) w'' s' j''
         ≡ told_after (replicate (length s) 0) used (perform base lends (levelled (turns_of again time pace)) (world_of (whole k old) w j used))
     carried_unmade {why} v w'' t'' j'' is back₀ =
         let back = rw is at back₀ in
         let kept : t'' ≡ tb = table_back base lends (turns_of again time pace) (whole k old) w j used proper bytes below fits r (whole k new) w' j' tb' m' goes j₂ ended.front ended.long w'' t'' j'' back in
         rw ran.cleared_staging
-        (stands_old q (working x t'' b m p) (working x t'' b' m' p') Heard.Nothing w'' (replicate (length s) 0) j'' v
-        (ap (λ (z : Done). told_done Heard.Nothing z (working x t'' b m p) w'' (replicate (length s) 0) j'') (ended.core_kept why v)
-        ∙ ap (λ (t : List ℕ). told_done Heard.Nothing (refused_by k (Verdict.Refused why) used) (working x t b m p) w'' (replicate (length s) 0) j'') kept
+        (stands_old q (working x t'' b m p) (working x t'' b' m' p') None w'' (replicate (length s) 0) j'' v
+        (ap (λ (z : Done). told_done None z (working x t'' b m p) w'' (replicate (length s) 0) j'') (ended.core_kept why v)
+        ∙ ap (λ (t : List ℕ). told_done None (refused_by k (Err why) used) (working x t b m p) w'' (replicate (length s) 0) j'') kept
         ∙ told_back base lends (turns_of again time pace) (whole k old) w j used proper bytes below fits r (whole k new) w' j' tb' m' goes j₂ ended.front ended.long w'' t'' j'' back (replicate (length s) 0) (refusal_number why) (ended.told_unmade why v)))

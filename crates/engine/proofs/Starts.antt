@@ -1,4 +1,5 @@
 -- How a call begins: refusals 5, 6 and 7 by cases, what holds where none is given, the turns of a run, and a service's. Assumes nothing.
+use Rattle.std.specs.Prelude.{Ok}
 use mathlib.Core.Bool.{Bool, true, false, cond, not, ◌&&◌, ◌||◌, false≢true}
 use mathlib.Core.List.{List, [], ◌++◌, append-nil}
 use mathlib.Core.Path.{◌≡◌, refl, sym, ap, ◌∙◌, subst}
@@ -29,8 +30,7 @@ use Rattle.rules.proofs.Steps.{bind_ok, then_ok, ask-does, put-does, change-does
 use Rattle.act.specs.Does.{beside, Answers}
 use Rattle.act.specs.Worlds.{came_to}
 use Rattle.act.specs.declared.Flow.{Flow}
-use Rattle.act.specs.declared.Step.{Step}
-use Rattle.act.specs.declared.Step.TheVariants.{Going}
+use Rattle.act.specs.Worlds.{Step}
 use Rattle.chip.specs.Turned.{Chips}
 use Rattle.controllers.specs.Waiting.{waiting_in}
 use Rattle.controllers.proofs.InputLaws.{requesting-answers}
@@ -164,7 +164,7 @@ module _ (time pace base : ℕ) (lent : Lent) (u : World) where
   some_taken false e = run-by_mode
 
 module _ (again chip : Bool) (o : List ℕ) (time pace base : ℕ) (lent : Lent) (t : Flow) (w j tb b m p : List ℕ) {q : Bool} (asked : q ≡ (again && eqb t.scalars.kick 0)) where
-  pub turns_idle : q ≡ true → TakesTurns again chip o time pace base lent t (Going t) w w j j tb tb b b m m p p
+  pub turns_idle : q ≡ true → TakesTurns again chip o time pace base lent t (Ok t) w w j j tb tb b b m m p p
   unfolding came_to
   turns_idle h d proper mode order = sym (none_taken time pace base lent (turning d t w j tb b m p) again (sym asked ∙ h))
 

@@ -1,5 +1,5 @@
 -- What the parts of a run promise. Assumes nothing.
-use Rattle.std.specs.Prelude.{Bool, cond, not, List, ◌≡◌, ℕ, ◌≤◌, eqb, length, replicate, take}
+use Rattle.std.specs.Prelude.{Bool, cond, not, List, ◌≡◌, ℕ, ◌≤◌, eqb, length, replicate, take, None, Ok, Err}
 use Rattle.rules.specs.Act.{Act, ask, when, ◌>>=◌}
 use Rattle.rules.specs.Calls.{Asked, run, service, refusal_number, levelled, world_of, told_after, after}
 use Rattle.rules.specs.Carry.{unmade, cleared, go, perform, Lent, lending}
@@ -8,17 +8,15 @@ use Rattle.rules.specs.Scalars.{KICK}
 use Rattle.rules.specs.State.{Device}
 use Rattle.rules.specs.View.{view_priorities}
 use Rattle.rules.specs.declared.Controller.{Controller as HeldController}
-use Rattle.rules.specs.declared.Heard.TheVariants as Heard
 use Rattle.rules.specs.declared.Refusal.{Refusal}
 use Rattle.rules.specs.declared.Scalars.{Scalars}
-use Rattle.rules.specs.declared.Verdict.TheVariants as Verdict
 use Rattle.rules.proofs.Proper.{Proper}
 use Rattle.act.specs.Parts.{Arrays, ordered, working, whole, told_done}
 use Rattle.act.specs.Worlds.{came_to, flow_of}
 use Rattle.act.specs.declared.Core.{Core}
 use Rattle.act.specs.declared.Done.{Done}
 use Rattle.act.specs.declared.Flow.{Flow}
-use Rattle.act.specs.declared.Step.{Step}
+use Rattle.act.specs.Worlds.{Step}
 use Rattle.acting.specs.Ending.{Settled, refused_by, remaining}
 use Rattle.acting.specs.declared.Reached.{Reached}
 use Rattle.turns.specs.Turns.{around, turning}
@@ -58,11 +56,11 @@ pub record Begins (again : Bool) (time : ℕ) (s : Scalars) (r : Flow) (b b' p :
 -- how an act of turns ended that began with core k and arrays x and came, in s₀ and then in s, to arrays x', window w' and journal j: all that is
 -- there where it is accepted; and where it is refused, its number, and that nothing is changed but window, arrays and the journal behind its end
 pub record Ended (k : Core) (x x' : Arrays) (s₀ : Step) (r : Done) (base : ℕ) (lent : Lent) (act : Act (Unit {0})) (w j₀ w' j j' : List ℕ) (used : ℕ) : Type 0 where
-  pub told_made : (z : List ℕ) → r.verdict ≡ Verdict.Accepted
-      → told_done Heard.Nothing r x' w' z j' ≡ told_after z used (perform base lent (levelled act) (world_of (whole k x) w j₀ used))
-  pub told_unmade : (why : Refusal) → r.verdict ≡ Verdict.Refused why
+  pub told_made : (z : List ℕ) → r.verdict ≡ (Ok tt)
+      → told_done None r x' w' z j' ≡ told_after z used (perform base lent (levelled act) (world_of (whole k x) w j₀ used))
+  pub told_unmade : (why : Refusal) → r.verdict ≡ Err why
       → perform base lent (levelled act) (world_of (whole k x) w j₀ used) ≡ unmade (refusal_number why) (cleared (world_of (whole k x) w j₀ used))
-  pub core_kept : (why : Refusal) → r.verdict ≡ Verdict.Refused why → r ≡ refused_by k (Verdict.Refused why) used
+  pub core_kept : (why : Refusal) → r.verdict ≡ Err why → r ≡ refused_by k (Err why) used
   pub front : take (flow_of s₀).at j' ≡ take (flow_of s₀).at j
   pub long : length j' ≡ length j
 
@@ -77,7 +75,7 @@ EndsTurns k s used r b b' m m' p p' j j' = (x : Arrays) (tb tb' : List ℕ) (s�
 abbrev pub Carries : Bool → Bool → List ℕ → ℕ → ℕ → ℕ → Core → Done → List ℕ → List ℕ → List ℕ → List ℕ → List ℕ → List ℕ → List ℕ → List ℕ
     → List ℕ → List ℕ → List ℕ → List ℕ → List ℕ → List ℕ → ℕ → Type 0
 Carries again chip o time pace base k r w w' s s' j j' tb tb' b b' m m' p p' used = (y : Arrays) → let x = ordered y o chip in Proper (whole k (working x tb b m p))
-    → told_done Heard.Nothing r (remaining r.verdict (working x tb' b m p) (working x tb' b' m' p')) w' s' j'
+    → told_done None r (remaining r.verdict (working x tb' b m p) (working x tb' b' m' p')) w' s' j'
     ≡ told_after (replicate (length s) 0) used (perform base (lending (length s)) (levelled (turns_of again time pace)) (world_of (whole k (working x tb b m p)) w j used))
 
 -- the call
@@ -86,4 +84,4 @@ call_of again time pace = cond again (service time pace) (run time pace)
 
 abbrev pub Runs : Bool → ℕ → ℕ → ℕ → Core → Done → Arrays → List ℕ → List ℕ → List ℕ → List ℕ → List ℕ → List ℕ → List ℕ → List ℕ → List ℕ → List ℕ → List ℕ → List ℕ → List ℕ → List ℕ → ℕ → Type 0
 Runs again time pace base k r x w w' s s' j j' tb tb' b b' m m' p p' used = Proper (whole k (working x tb b m p))
-    → told_done Heard.Nothing r (working x tb' b' m' p') w' s' j' ≡ after (call_of again time pace) base (whole k (working x tb b m p)) w s j used
+    → told_done None r (working x tb' b' m' p') w' s' j' ≡ after (call_of again time pace) base (whole k (working x tb b m p)) w s j used

@@ -20,15 +20,15 @@ fn tested(time: u64, pace: u64, base: u32, window: usize, journal: usize, used: 
     ensures { verdict_number result ≡ wrong base window journal used (run_call time pace) }
 {
     if asking::bad_window(base, window) {
-        return Verdict::Refused(Refusal::Window);
+        return Err(Refusal::Window);
     }
     if asking::bad_journal(journal, used) {
-        return Verdict::Refused(Refusal::Journal);
+        return Err(Refusal::Journal);
     }
     if asking::bad_time(time, pace) {
-        return Verdict::Refused(Refusal::Time);
+        return Err(Refusal::Time);
     }
-    Verdict::Accepted
+    Ok(())
 }
 
 // ---- the turns of a run
@@ -227,7 +227,7 @@ fn carried(
         used,
     );
     let verdict = r.verdict;
-    let Verdict::Accepted = verdict else {
+    let Ok(()) = verdict else {
         journal::roll_back(base, window, table, journal, used, act::end_of(s));
         return r;
     };
@@ -255,7 +255,7 @@ pub fn run_in(
     ensures { (x : Arrays) → (Runs again time pace base k result (ordered x priorities.now chip) ⇒ window ⇒ staging ⇒ journal ⇒ table ⇒ busy ⇒ majors ⇒ pending) used }
 {
     let v = tested(time, pace, base, window.len(), journal.len(), used);
-    let Verdict::Accepted = v else {
+    let Ok(()) = v else {
         return Done {
             verdict: v,
             used,
@@ -286,7 +286,7 @@ pub fn run_in(
         used,
     );
     let ended = r.verdict;
-    let Verdict::Accepted = ended else {
+    let Ok(()) = ended else {
         *busy = busy_before;
         *majors = majors_before;
         *pending = pending_before;

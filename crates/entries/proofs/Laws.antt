@@ -1,4 +1,5 @@
 -- The laws that the proofs of this crate cite: an entry, once its call has been made. Assumes nothing.
+use Rattle.std.specs.Prelude.{Ok, Err}
 use mathlib.Core.Bool.{true, false}
 use mathlib.Core.List.{List, []}
 use mathlib.Core.Path.{◌≡◌, refl, sym, ap, ◌∙◌}
@@ -13,7 +14,7 @@ use Rattle.rules.specs.declared.Acted.{Acted}
 use Rattle.rules.specs.State.{Device}
 use Rattle.rules.specs.View.{view}
 use Rattle.rules.specs.declared.Refusal.{Refusal}
-use Rattle.rules.specs.declared.Verdict.{Verdict}
+use Rattle.rules.specs.Verdicts.{Verdict}
 use Rattle.rules.proofs.Told.{refusal_suc}
 use Rattle.image.specs.Image.{image_of, device_in, is_image}
 use Rattle.captures.specs.declared.Captured.{Captured}
@@ -51,10 +52,10 @@ read_entry image f h p q e = rw (h, ← p, ← q) e
 
 -- ---- a device laid down, or not
 
-pub laid_down : (image : List ℕ) (d : Device) {v : Verdict} {image' : List ℕ} → v ≡ Verdict.Accepted → image' ≡ image_of d → image' ≡ image_after image (verdict_number v) d
+pub laid_down : (image : List ℕ) (d : Device) {v : Verdict} {image' : List ℕ} → v ≡ (Ok tt) → image' ≡ image_of d → image' ≡ image_after image (verdict_number v) d
 laid_down image d e p = p ∙ ap (λ v. image_after image (verdict_number v) d) (sym e)
 
-pub left_so : (image : List ℕ) (d : Device) {v : Verdict} {n : Refusal} → v ≡ Verdict.Refused n → image ≡ image_after image (verdict_number v) d
+pub left_so : (image : List ℕ) (d : Device) {v : Verdict} {n : Refusal} → v ≡ Err n → image ≡ image_after image (verdict_number v) d
 left_so image d {n = n} e = sym (ap (λ v. image_after image (verdict_number v) d) e ∙ ap (λ k. image_after image k d) (refusal_suc n).1)
 
 -- ---- a fresh device

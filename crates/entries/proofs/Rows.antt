@@ -2,6 +2,7 @@
 -- window and used journal are what the entries still standing, made alone in order, give; these are accepted and answer the same; and what a
 -- take-back answers. Of an image that device is compared that stands in it: of a priority "only the low six bits are [..] compared" (document 02, [10]);
 -- and the image, byte by byte, where the row began with no other bits in it. Assumes nothing.
+use Rattle.std.specs.Prelude.{None}
 use mathlib.Core.Bool.{true, false}
 use mathlib.Core.List.{List, [], ◌∷◌}
 use mathlib.Core.Logic.{◌↔◌}
@@ -13,7 +14,7 @@ use Rattle.rules.specs.Bytes.{Bytes}
 use Rattle.rules.specs.Calls.{Told, told, number_told, device_told, heard_told, after, after_back, ToldRead, after_read}
 use Rattle.rules.specs.Carry.{After, made, unmade}
 use Rattle.rules.specs.State.{Device}
-use Rattle.rules.specs.declared.Heard.{Heard}
+use Rattle.rules.specs.Verdicts.{Heard}
 use Rattle.rules.proofs.Along.{Along, make_along, back_along}
 use Rattle.rules.proofs.Bench.{Held, RowCall, act, read, amiss, amiss_back, read_number, ended, ended_amiss, make_held, back_held}
 use Rattle.rules.proofs.CallLaws.{AsGiven, act_as_given, back_as_given}
@@ -309,11 +310,11 @@ module _ (base : ℕ) (start : ImageShelf) (begins : Begins base start) where
 
   -- where one stands, a take-back is accepted, and leads to what the others, made alone in order, give
   pub entries_last_taken_back : (row : List (Entry RowCall)) (c : RowCall × Heard) (cs : List (RowCall × Heard)) → let s = entered_row base start row in s.standing ≡ c ∷ cs
-      → (t u : ImageShelf) × (back_entry base s.here ≡ made Heard.Nothing t) × EnteredAlone base start cs u × Alike t u
+      → (t u : ImageShelf) × (back_entry base s.here ≡ made None t) × EnteredAlone base start cs u × Alike t u
   entries_last_taken_back row c cs e =
       let s = entered_row base start row in
       let r = subst (λ s. s.standing ≡ c ∷ cs
-      → (v w : Shelf Device) × (back_seen base s.here ≡ made Heard.Nothing v) × Alone (make_seen base) (seen start) cs w × (compared_shelf v ≡ compared_shelf w)) (row_seen row)
+      → (v w : Shelf Device) × (back_seen base s.here ≡ made None v) × Alone (make_seen base) (seen start) cs w × (compared_shelf v ≡ compared_shelf w)) (row_seen row)
       (rows_last_taken_back (λ d. d) base own own_opens own_proper (make_seen base) (back_seen base) (λ c h a. refl) (λ h a. refl) row c cs) e in
       let m = made_lifts seen (back_entry base s.here) (sym (seen_ends s.here.device (back_entry base s.here) (back_held base (held (seen s.here))) (back_seen_lem row)) ∙ r.2) in
       let l = lifts r.3 in

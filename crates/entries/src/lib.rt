@@ -18,7 +18,7 @@ fn lay_down(image: &mut [u8], v: Verdict, d: Device)
     requires { length image.old ≡ 8720 }
     ensures { image.new ≡ image_after image.old (verdict_number v) (view d) }
 {
-    let Verdict::Accepted = v else {
+    let Ok(()) = v else {
         return;
     };
     image::put_device(image, d);

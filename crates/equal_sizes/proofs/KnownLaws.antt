@@ -1,6 +1,6 @@
 -- Units that are known to lie in the window: what a place says, the test's numbers, a turn of the loop without tests, and sizes of 16 and 32
 -- bytes as units of 4. Assumes nothing.
-use Rattle.std.proofs.Common.{◌≡◌, ℕ, zero, suc, ◌+◌, ◌-◌, ◌*◌, ◌/◌, ◌%◌, ◌^◌, ◌<◌, ◌≤◌, true, leb, List, length, sym, refl, ap, ◌∙◌, inl, inr, add-zero, mod-lt, mod-eq_of_lt, suc-mul, mul-le-mul, suc-add, zero-add, zero-mul, suc-ne-zero, arith, lit<, lit≤, leb-true}
+use Rattle.std.proofs.Common.{◌≡◌, ℕ, zero, suc, ◌+◌, ◌-◌, ◌*◌, ◌/◌, ◌%◌, ◌^◌, ◌<◌, ◌≤◌, true, leb, List, length, sym, refl, ap, ◌∙◌, inl, inr, add-zero, mod-lt, mod-eq_of_lt, suc-mul, mul-le-mul, suc-add, zero-add, zero-mul, suc-ne-zero, arith, lit<, lit≤, leb-true, Some}
 use Rattle.rules.specs.Act.{Act, window, ◌>>=◌, ◌>>◌, fetch, store}
 use Rattle.rules.specs.Bytes.{bytes, number, part, splice}
 use Rattle.rules.specs.Calls.{world_of}
@@ -15,8 +15,7 @@ use Rattle.words.specs.Widths.{MemoryWidth}
 use Rattle.words.proofs.Laws.{modulo_none}
 use Rattle.act.proofs.Laws.{window-done}
 use Rattle.memory.specs.Places.{holding, place_of}
-use Rattle.memory.specs.declared.Place.{Place}
-use Rattle.memory.specs.declared.Place.TheVariants.{At}
+use Rattle.std.specs.Prelude.{Option}
 use Rattle.memory.proofs.Laws.{inside}
 use Rattle.equal_sizes.specs.Known.{Recorded, Within, Inside, Known, Plain, sizes_of}
 use Rattle.equal_sizes.specs.declared.Steps.{Steps}
@@ -30,7 +29,7 @@ within_fits h = omega (arith, h.low, h.high)
 
 module _ (base : ℕ) (w : List ℕ) (a n : ℕ) where
   -- what an answer says
-  pub at_within : {r : Place} {i : ℕ} → r ≡ place_of base w a n → r ≡ At i → Within base (length w) a n
+  pub at_within : {r : Option ℕ} {i : ℕ} → r ≡ place_of base w a n → r ≡ Some i → Within base (length w) a n
   unfolding there holding
   at_within asked found =
       let both = inside base w a n asked found in

@@ -1,5 +1,5 @@
 -- Units and whole sizes in turn, each law over every unit: a unit by cases, a turn of a loop, and its end. Assumes nothing.
-use Rattle.std.proofs.Common.{◌≡◌, ℕ, suc, ◌+◌, ◌-◌, ◌*◌, ◌/◌, ◌%◌, ◌^◌, ◌<◌, ◌≤◌, List, sym, refl, ap, ◌∙◌, inl, inr, add-zero, mod-eq_of_lt, zero-mul, add-one, arith, ne_eqb, eqb-true}
+use Rattle.std.proofs.Common.{◌≡◌, ℕ, suc, ◌+◌, ◌-◌, ◌*◌, ◌/◌, ◌%◌, ◌^◌, ◌<◌, ◌≤◌, List, sym, refl, ap, ◌∙◌, inl, inr, add-zero, mod-eq_of_lt, zero-mul, add-one, arith, ne_eqb, eqb-true, Some, None, Ok, Err}
 use native.Mathlib.Nat.{div_self, min-eq_left, min-eq_right}
 use Rattle.rules.specs.Act.{Act, window, ◌>>=◌, ◌>>◌, nothing, fetch, store}
 use Rattle.rules.specs.Bytes.{number, part}
@@ -13,23 +13,21 @@ use Rattle.rules.proofs.Steps.{fetch-inside, fetch_outside}
 use Rattle.words.specs.Sizes.{a_size, Sized}
 use Rattle.words.specs.Widths.{MemoryWidth}
 use Rattle.act.specs.Worlds.{walked}
-use Rattle.act.specs.declared.Walk.TheVariants as Walk
 use Rattle.memory.specs.Places.{place_of}
-use Rattle.memory.specs.declared.Place.{Place}
-use Rattle.memory.specs.declared.Place.TheVariants.{At, Outside}
+use Rattle.std.specs.Prelude.{Option}
 use Rattle.memory.proofs.Laws.{not_there, at_there, at_index}
 use Rattle.equal_sizes.specs.Moves.{moved}
 use Rattle.equal_sizes.specs.declared.Moved.TheVariants.{To}
 
 -- ---- a unit, by where it is read
 
-module _ (base : ℕ) (lent : Lent) (dev : Device) (w j : List ℕ) (e u a b : ℕ) {p : Place} (asked : p ≡ place_of base w a u) where
-  pub unit_outside : p ≡ Outside → walked (Walk.Off Refusal.Outside e) dev w j ≡ go base lent (move_unit u a b) (world_of dev w j e)
+module _ (base : ℕ) (lent : Lent) (dev : Device) (w j : List ℕ) (e u a b : ℕ) {p : Option ℕ} (asked : p ≡ place_of base w a u) where
+  pub unit_outside : p ≡ None → walked (Err (record { why = Refusal.Outside; at = e })) dev w j ≡ go base lent (move_unit u a b) (world_of dev w j e)
   unfolding walked move_unit fetch ◌>>=◌
   unit_outside h = sym (fetch_outside base lent window a u (λ v. store window b u (number v)) (world_of dev w j e) (not_there base w a u asked h dev))
 
   -- stored with the width k that a match told
-  pub unit_read : {k i v : ℕ} {r : Out (Unit {0})} → u ≡ k → p ≡ At i → v ≡ number (part w i k) → r ≡ go base lent (store window b k v) (world_of dev w j e)
+  pub unit_read : {k i v : ℕ} {r : Out (Unit {0})} → u ≡ k → p ≡ Some i → v ≡ number (part w i k) → r ≡ go base lent (store window b k v) (world_of dev w j e)
       → r ≡ go base lent (move_unit u a b) (world_of dev w j e)
   unfolding move_unit fetch ◌>>=◌ fetched bytes_of
   unit_read is h got did =
@@ -50,7 +48,7 @@ units-on count k u s d h p q =
     rw (e, p, q, ap (λ (i : ℕ). move_units (count - (k + 1)) i u s d) (add-one k))
 
 pub units_end : (base : ℕ) (lent : Lent) (dev : Device) (count k u s d e : ℕ) (w j : List ℕ) {o : Out (Unit {0})} → count ≤ k
-    → go base lent (move_units (count - k) k u s d) (world_of dev w j e) ≡ o → walked (Walk.On e) dev w j ≡ o
+    → go base lent (move_units (count - k) k u s d) (world_of dev w j e) ≡ o → walked (Ok e) dev w j ≡ o
 unfolding move_units walked go
 units_end base lent dev count k u s d e w j h rest =
     let z : 0 ≡ count - k = omega arith in

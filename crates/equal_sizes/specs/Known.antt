@@ -1,16 +1,15 @@
 -- Units that are known to lie in the window, with room for their records: what one test before a loop shows. Assumes nothing.
-use Rattle.std.specs.Prelude.{◌≡◌, ℕ, ◌+◌, ◌-◌, ◌*◌, ◌^◌, ◌<◌, ◌≤◌, List, ◌≢◌}
+use Rattle.std.specs.Prelude.{◌≡◌, ℕ, ◌+◌, ◌-◌, ◌*◌, ◌^◌, ◌<◌, ◌≤◌, List, ◌≢◌, Ok}
 use Rattle.rules.specs.Act.{Act}
 use Rattle.rules.specs.Minor.{move_sizes}
 use Rattle.words.specs.Widths.{MemoryWidth}
 use Rattle.act.specs.Worlds.{Walks}
-use Rattle.act.specs.declared.Walk.TheVariants.{On}
 use Rattle.equal_sizes.specs.declared.Steps.{Steps}
 use Rattle.equal_sizes.specs.declared.Units.{Units}
 
 -- an act with one store, which was made: the journal is one record longer
 abbrev pub Recorded : Act (Unit {0}) → ℕ → ℕ → List ℕ → List ℕ → List ℕ → List ℕ → Type 0
-Recorded act base at = Walks act base at (On (at + 16))
+Recorded act base at = Walks act base at (Ok (at + 16))
 
 -- n bytes from address a on, in a window of `len` bytes
 pub record Within (base len a n : ℕ) : Type 0 where

@@ -16,8 +16,7 @@ use Rattle.rules.proofs.BytesLaws.{get_or-part, part-part}
 use Rattle.rules.proofs.Cut.{part_cut}
 use Rattle.memory.specs.Places.{holding, place_of}
 use Rattle.journal.specs.Undoing.{machine_of, Undone, undo_as, undo_line, undo_lines}
-use Rattle.memory.specs.declared.Place.{Place}
-use Rattle.memory.specs.declared.Place.TheVariants.{At, Outside}
+use Rattle.std.specs.Prelude.{Option, Some, None}
 use Rattle.memory.proofs.Laws.{not_inside, inside, at_index}
 
 -- zeros to the end
@@ -37,12 +36,12 @@ module _ (base a n v : ℕ) (w t : List ℕ) {fair : Bool} (asked : fair ≡ leg
   unfolding undo_as
   other_width h d = rw (← asked, not-true fair h)
 
-  module _ (legal-is : not fair ≡ false) {r : Place} (place-asked : r ≡ place_of base w a n) where
-    pub other_place : r ≡ Outside → Undone (undo_as base 0 n a v) w w t t
+  module _ (legal-is : not fair ≡ false) {r : Option ℕ} (place-asked : r ≡ place_of base w a n) where
+    pub other_place : r ≡ None → Undone (undo_as base 0 n a v) w w t t
     unfolding undo_as there
     other_place h d = let o : there base window a n (machine_of w t d) ≡ false = (unfold there holding in not_inside base w a n place-asked h) in rw (← asked, not-false fair legal-is, o)
 
-    pub laid_back : {i : ℕ} {w' : List ℕ} → r ≡ At i → w' ≡ splice w i (bytes n v) → Undone (undo_as base 0 n a v) w w' t t
+    pub laid_back : {i : ℕ} {w' : List ℕ} → r ≡ Some i → w' ≡ splice w i (bytes n v) → Undone (undo_as base 0 n a v) w w' t t
     unfolding undo_as there stored with_bytes_of bytes_of
     laid_back h e d =
         let o : there base window a n (machine_of w t d) ≡ true = (unfold there holding in inside base w a n place-asked h) in
@@ -99,16 +98,15 @@ module _ (base : ℕ) where
       further = omega arith
 
   -- a turn of the loop
-  pub undo-turn : (count done from : ℕ) (j w t : List ℕ) {w' t' : List ℕ} → done < count → from + count * 16 ≤ length j
-      → Undone (undo_line base (part j (from + (count - done - 1) * 16) 16)) w w' t t' → (d : Device)
-      → undo_lines base (count - (done + 1)) (drop from j) (machine_of w' t' d) ≡ undo_lines base (count - done) (drop from j) (machine_of w t d)
-  undo-turn count done from j w t more fits e d =
-      let n : ℕ = count - done - 1 in
-      let s : count - done ≡ suc n = omega arith in
-      let z : count - (done + 1) ≡ n = omega arith in
+  pub undo-turn : (left from : ℕ) (j w t : List ℕ) {w' t' : List ℕ} → 0 < left → from + left * 16 ≤ length j
+      → Undone (undo_line base (part j (from + (left - 1) * 16) 16)) w w' t t' → (d : Device)
+      → undo_lines base (left - 1) (drop from j) (machine_of w' t' d) ≡ undo_lines base left (drop from j) (machine_of w t d)
+  undo-turn left from j w t more fits e d =
+      let n : ℕ = left - 1 in
+      let s : left ≡ suc n = omega arith in
       let l : part j (from + n * 16) 16 ≡ take 16 (drop (n * 16) (drop from j)) =
       part_cut j (from + n * 16) 16 (omega arith) ∙ ap (take 16) (sym (drop-drop (n * 16) from j)) in
-      rw (s, z, e d, l) (sym (last_first n (drop from j) (machine_of w t d)))
+      rw (e d, l) (sym (last_first n (drop from j) (machine_of w t d))) ∙ ap (λ (k : ℕ). undo_lines base k (drop from j) (machine_of w t d)) (sym s)
 
   pub undo_none : (n : ℕ) (l : List ℕ) (m : Machine) → n ≡ 0 → undo_lines base n l m ≡ m
   unfolding undo_lines

@@ -10,8 +10,7 @@ ghost use Rattle.act.specs.Worlds.{OnTable};
 ghost use Rattle.words.specs.Widths.{TableWidth};
 ghost use Rattle.journal.specs.Undoing.{Undone, undo_as, undo_line, undo_lines, RolledBack};
 
-use act::{Flow, Step};
-use memory::Place;
+use act::{Flow, Step, Stopped};
 use rules::Refusal;
 
 // ---- records
@@ -54,20 +53,21 @@ pub fn store_table(
     requires { (place + width ≤ 2048) × (TableWidth width) }
     ensures { OnTable (store in_table place width value) s result ⇒ journal ⇒ table }
 {
-    let Step::Going(c) = s else {
-        return s;
-    };
+    let c = s?;
     let at = c.at;
     // read before room is asked: a table that is lent shows its length, and the proof of the refusal needs that too
     let old = words::get_width(table, place, width);
     if !has_room(journal, at) {
-        return Step::Refused(Refusal::Room, c);
+        return Err(Stopped {
+            why: Refusal::Room,
+            at: c,
+        });
     }
     let end = at + 16;
     put_record(journal, at, 1, width as u8, place as u32, old);
     words::put_width(table, place, width, value);
     let scalars = c.scalars;
-    Step::Going(Flow { scalars, at: end })
+    Ok(Flow { scalars, at: end })
 }
 
 // ---- undoing
@@ -104,7 +104,7 @@ fn undo_memory(base: u32, window: &mut [u8], place: u32, width: usize, old: u64)
     if !is_memory_width(width) {
         return;
     }
-    let Place::At(i) = memory::where_is(base, window, place, width) else {
+    let Some(i) = memory::where_is(base, window, place, width) else {
         return;
     };
     words::put_width(window, i, width, old);
@@ -163,11 +163,8 @@ fn undo_stores(
     ensures { Undone (undo_lines base ((to - from) / 16) (drop from journal.now)) ⇒ window ⇒ table }
 {
     let count = span(from, to) / 16;
-    let mut done = 0;
-    while done < count {
-        let last = count - done - 1;
-        undo_store(base, window, table, journal, from + last * 16);
-        done += 1;
+    for k in (0..count).rev() {
+        undo_store(base, window, table, journal, from + k * 16);
     }
 }
 

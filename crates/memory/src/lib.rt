@@ -4,23 +4,17 @@
 ghost use Rattle.std.specs.Prelude.{◌≡◌, ◌≤◌};
 ghost use Rattle.memory.specs.Places.{place_of};
 
-// In the window, at an index, or with a byte outside it.
-#[derive(Clone, Copy)]
-pub enum Place {
-    At(usize),
-    Outside,
-}
-
-pub fn where_is(base: u32, window: &[u8], address: u32, width: usize) -> Place
+// In the window, at an index; or nowhere, with a byte outside it.
+pub fn where_is(base: u32, window: &[u8], address: u32, width: usize) -> Option<usize>
     requires { width ≤ 8 }
     ensures { result ≡ place_of base window.now address width }
 {
     if address < base {
-        return Place::Outside;
+        return None;
     }
     let i = (address - base) as usize;
     if window.len() < i + width {
-        return Place::Outside;
+        return None;
     }
-    Place::At(i)
+    Some(i)
 }

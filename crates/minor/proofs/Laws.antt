@@ -1,4 +1,5 @@
 -- A transfer, by its sizes; and a pass, by how its transfer ends. Assumes nothing.
+use Rattle.std.specs.Prelude.{Ok, Err}
 use mathlib.Core.Bool.{Bool, true, false, cond}
 use mathlib.Core.List.{List}
 use mathlib.Core.Path.{◌≡◌, refl, sym, ap, ◌∙◌}
@@ -17,7 +18,7 @@ use Rattle.rules.specs.declared.Tcd.{Tcd}
 use Rattle.rules.proofs.Steps.{and_then, go_bind}
 use Rattle.act.specs.Worlds.{over, world, came_to, on}
 use Rattle.act.specs.declared.Flow.{Flow}
-use Rattle.act.specs.declared.Step.{Step}
+use Rattle.act.specs.Worlds.{Step}
 use Rattle.act.proofs.Laws.{on_then, described}
 use Rattle.equal_sizes.specs.Moves.{moved}
 use Rattle.equal_sizes.specs.declared.Moved.{Moved}
@@ -60,7 +61,7 @@ module _ (base : ℕ) (lent : Lent) (d : Device) (c : Flow) (w j t m : List ℕ)
 
   body : go base lent (cond (eqb (count_of x.citer) 0) (done false) (moving >>= rest)) start ≡ go base lent (pass ch) start
   unfolding pass came_to on go ask ◌>>=◌
-  body = described base lent (Step.Going c) d w j t m ch _ read fits
+  body = described base lent (Ok c) d w j t m ch _ read fits
 
   pub pass_idle : {n : ℕ} → n ≡ count_of x.citer → n ≡ 0 → passed Idle c d w j t m ≡ go base lent (pass ch) start
   unfolding passed go
@@ -73,17 +74,17 @@ module _ (base : ℕ) (lent : Lent) (d : Device) (c : Flow) (w j t m : List ℕ)
         ∙ sym (go_bind base lent moving rest start)
         ∙ rw (ne_eqb (count_of x.citer) 0 (λ z. some (counted ∙ z))) at body
 
-    pub pass_not : {k : Refusal} {e : ℕ} → r ≡ Moved.Not k e → passed (Ran (Step.Refused k (ended c e))) c d w' j' t m ≡ go base lent (pass ch) start
+    pub pass_not : {k : Refusal} {e : ℕ} → r ≡ Moved.Not k e → passed (Ran (Err (record { why = k; at = (ended c e) }))) c d w' j' t m ≡ go base lent (pass ch) start
     unfolding passed moved and_then
     pass_not {k} {e} h = working (Moved.Not k e) h
 
     ran : (q : Step) (w'' j'' t'' m'' : List ℕ) → passed (Ran q) c d w'' j'' t'' m'' ≡ on base lent (done true) (came_to q d w'' j'' t'' m'')
     unfolding passed on came_to go
-    ran (Step.Going f) w'' j'' t'' m'' = refl
-    ran (Step.Refused k f) w'' j'' t'' m'' = refl
+    ran (Ok f) w'' j'' t'' m'' = refl
+    ran (Err stopped) w'' j'' t'' m'' = refl
 
     pub pass_to : {s₀ d₀ e s₁ d₁ : ℕ} → r ≡ Moved.To s₀ d₀ e → s₁ ≡ offset (source_offset c.scalars.cr x) x s₀ → d₁ ≡ offset (dest_offset c.scalars.cr x) x d₀
-        → (q : Step) (w'' j'' t'' m'' : List ℕ) → came_to q d w'' j'' t'' m'' ≡ on base lent (minor_end ch x s₁ d₁) (came_to (Step.Going (ended c e)) d w' j' t m)
+        → (q : Step) (w'' j'' t'' m'' : List ℕ) → came_to q d w'' j'' t'' m'' ≡ on base lent (minor_end ch x s₁ d₁) (came_to (Ok (ended c e)) d w' j' t m)
         → passed (Ran q) c d w'' j'' t'' m'' ≡ go base lent (pass ch) start
     unfolding moved and_then came_to on
     pass_to {s₀} {d₀} {e} {s₁} {d₁} h p₁ p₂ q w'' j'' t'' m'' k =

@@ -1,4 +1,5 @@
 -- The calls, by cases: what is wrong with the arguments, in number order, and what is done. Assumes nothing.
+use Rattle.std.specs.Prelude.{Some, None, Ok, Err}
 use mathlib.Core.Bool.{Bool, true, false, not, ◌||◌}
 use mathlib.Core.List.{List, []}
 use mathlib.Core.Option.{Option, some}
@@ -17,10 +18,9 @@ use Rattle.rules.specs.Fields.{bits_of, bits_in, parts_of, fields_of}
 use Rattle.rules.specs.Registers.{within, in_blocks, in_table, block_of, offset_of, dma_read, dma_write, read_in, read_at, write_in, write_at, controller_write, past_table, past_word}
 use Rattle.rules.specs.State.{Device}
 use Rattle.rules.specs.View.{view_priorities}
-use Rattle.rules.specs.declared.Heard.{Heard}
-use Rattle.rules.specs.declared.Reading.TheVariants as Reading
+use Rattle.rules.specs.Verdicts.{Heard}
 use Rattle.rules.specs.declared.Refusal.{Refusal}
-use Rattle.rules.specs.declared.Verdict.{Verdict}
+use Rattle.rules.specs.Verdicts.{Verdict}
 use Rattle.rules.proofs.BoolLaws.{and_left, and_right, and_both}
 use Rattle.rules.proofs.CallLaws.{wrong-alone}
 use Rattle.rules.proofs.Proper.{Proper}
@@ -32,12 +32,9 @@ use Rattle.act.specs.Parts.{Arrays, tabled, counted, taking, ordered, whole, Sam
 use Rattle.act.specs.Worlds.{on, came_to}
 use Rattle.act.specs.declared.Core.{Core}
 use Rattle.act.specs.declared.Done.{Done}
-use Rattle.act.specs.declared.Step.TheVariants.{Going}
-use Rattle.act.specs.declared.Walk.TheVariants.{On}
 use Rattle.act.proofs.DoesLaws.{does-cut, does-change}
 use Rattle.closing.specs.Closes.{noting, add_all, add_end, Notes, NotesOne, Part, core_in, order_in}
-use Rattle.closing.specs.declared.Noted.{Noted}
-use Rattle.closing.specs.declared.Noted.TheVariants.{At, Full}
+use Rattle.closing.specs.Closes.{Noted}
 use Rattle.closing.proofs.Parts.{same-part, same-busy, same-majors, same-pending, same_taken, every_noted}
 use Rattle.acting.specs.Ending.{begun_at, done_by, cleared_from, Settled, Settles}
 use Rattle.acting.specs.declared.Reached.{Reached}
@@ -80,7 +77,7 @@ pub put_back : (l : List ℕ) (i v : ℕ) → set (set l i v) i (get_or l i 0) �
 put_back l i v = set-set l i v (get_or l i 0) ∙ set-get_or l i 0
 
 -- an accepted call has no refusal's promise to keep
-pub accepted_spares : {v : Verdict} {held held' : List ℕ} → v ≡ Verdict.Accepted → Spared v held held'
+pub accepted_spares : {v : Verdict} {held held' : List ℕ} → v ≡ (Ok tt) → Spared v held held'
 accepted_spares e n f = absurd (let z : ◌≡◌ {A = ℕ} 0 1 = cc in omega arith)
 
 -- ---- refusal 4, by the offset
@@ -149,7 +146,7 @@ module _ (does : Option (Act (Unit {0}))) (past bad : Bool) where
 -- ---- refused, accepted
 
 module _ (m : Act Heard) (base : ℕ) (d : Device) (w staging j : List ℕ) (used : ℕ) where
-  told-no : (why : Refusal) → told (refusal_number why) Heard.Nothing d w staging j used ≡ answered (refusal_number why) m base d w staging j used
+  told-no : (why : Refusal) → told (refusal_number why) None d w staging j used ≡ answered (refusal_number why) m base d w staging j used
   unfolding answered unless_stopped
   told-no why = rw (refusal_suc why).1 refl
 
@@ -159,7 +156,7 @@ module _ (m : Act Heard) (base : ℕ) (d : Device) (w staging j : List ℕ) (use
 
 -- of a device in parts
 pub refuses : (m : Act Heard) (base : ℕ) (k : Core) (x : Arrays) (w staging j : List ℕ) (used : ℕ) (why : Refusal) {n : ℕ} {r : Done}
-    → r ≡ record { verdict = Verdict.Refused why; used = used; core = k } → n ≡ refusal_number why → told_done Heard.Nothing r x w staging j ≡ answered n m base (whole k x) w staging j used
+    → r ≡ record { verdict = Err why; used = used; core = k } → n ≡ refusal_number why → told_done None r x w staging j ≡ answered n m base (whole k x) w staging j used
 refuses m base k x w staging j used why e f = rw (e, f) (told-no m base (whole k x) w staging j used why)
 
 -- a call that leaves staging as it is
@@ -178,8 +175,8 @@ asked_after c base d w staging j used e b =
 
 -- the refusals before a block is known
 pub write-no : (address size v base : ℕ) (k : Core) (x : Arrays) (w staging j : List ℕ) (used : ℕ) (why : Refusal) {r : Done}
-    → r ≡ record { verdict = Verdict.Refused why; used = used; core = k } → wrong base (length w) (length j) used (write address size v) ≡ refusal_number why
-    → told_done Heard.Nothing r x w staging j ≡ after (write address size v) base (whole k x) w staging j used
+    → r ≡ record { verdict = Err why; used = used; core = k } → wrong base (length w) (length j) used (write address size v) ≡ refusal_number why
+    → told_done None r x w staging j ≡ after (write address size v) base (whole k x) w staging j used
 unfolding staging_after barred
 write-no address size v base k x w staging j used why e f =
     refuses (act_of (write address size v)) base k x w staging j used why e f ∙ asked_after (write address size v) base (whole k x) w staging j used refl refl
@@ -213,7 +210,7 @@ module _ (address size v base : ℕ) (d : Device) (w staging j : List ℕ) (used
 
 -- a DMA write begins with a core's numbers and the table t, and comes to the table t'
 pub dma_goes : (base : ℕ) (lent : Lent) (act : Act (Unit {0})) (k : Core) (x : Arrays) (t t' : List ℕ) (w j : List ℕ) (at : ℕ) {o : Out (Unit {0})}
-    → o ≡ on base lent act (came_to (Going (record { scalars = k.scalars; at = at })) (whole k (tabled x t')) w j t x.majors) → o ≡ go base lent act (world_of (whole k (tabled x t)) w j at)
+    → o ≡ on base lent act (came_to (Ok (record { scalars = k.scalars; at = at })) (whole k (tabled x t')) w j t x.majors) → o ≡ go base lent act (world_of (whole k (tabled x t)) w j at)
 unfolding on came_to
 dma_goes base lent act k x t t' w j at f = f
 
@@ -223,12 +220,12 @@ module _ (d : Device) (address size : ℕ) where
   abbrev place : ℕ
   place = address % 0x4000
 
-  pub read_no-size : bad_size size ≡ true → told_reading (Reading.Refused Refusal.Size) ≡ after_read d address size
+  pub read_no-size : bad_size size ≡ true → told_reading (Err Refusal.Size) ≡ after_read d address size
   unfolding after_read wrong_read check read_unless
   read_no-size e = rw e
 
   module _ (s : bad_size size ≡ false) where
-    pub read_no_block : in_blocks address ≡ false → told_reading (Reading.Refused Refusal.Address) ≡ after_read d address size
+    pub read_no_block : in_blocks address ≡ false → told_reading (Err Refusal.Address) ≡ after_read d address size
     unfolding after_read wrong_read check read_unless
     read_no_block e = rw (s, e)
 
@@ -247,12 +244,12 @@ module _ (d : Device) (address size : ℕ) where
 
 -- how an act without a store settles
 pub stored_settled : (base : ℕ) (lent : Lent) (act : Act (Unit {0})) (d : Device) (k : Core) (x : Arrays) (w j : List ℕ) (used : ℕ) (s : Reached) → Proper d → used ≤ length j
-    → Settles k (Going (record { scalars = k.scalars; at = used })) s → Does act d (whole k x) → Settled k x (Going (record { scalars = k.scalars; at = used })) s base lent act d w j w j used
+    → Settles k (Ok (record { scalars = k.scalars; at = used })) s → Does act d (whole k x) → Settled k x (Ok (record { scalars = k.scalars; at = used })) s base lent act d w j w j used
 stored_settled base lent act d k x w j used s p fits settles does = settles x base lent act d w j w j used p fits (does-goes base lent act d k x w j used does)
 
 -- there are 64 counts
 pub counts-long : (k : Core) (x : Arrays) (q : List ℕ) → Proper (whole k (counted x q)) → length q ≡ 64
-counts-long k x q p = (same-pending k (counted x q) p Full []).long
+counts-long k x q p = (same-pending k (counted x q) p None []).long
 
 pub pending-does : (k : Core) (x : Arrays) (q : List ℕ) (ch count : ℕ) → get_or q ch 0 + count < 2 ^ 32
     → Does (add_pending ch count) (whole k (counted x q)) (whole k (counted x (set q ch (get_or q ch 0 + count))))
@@ -261,40 +258,40 @@ pending-does k x q ch count h = does-change (whole k (counted x q)) (PENDING ch)
 
 -- an act without a store, which came from the arrays y to y', and its last records
 module _ (k : Core) (s : Reached) (y y' : Arrays) (used : ℕ) (j : List ℕ) (act : Act (Unit {0})) (p : Proper (whole k y)) (fits : used ≤ length j)
-    (settles : Settles k (Going (record { scalars = k.scalars; at = used })) s) (does : Does act (whole k y) (whole k y')) {n : Noted} {j₁ : List ℕ}
+    (settles : Settles k (Ok (record { scalars = k.scalars; at = used })) s) (does : Does act (whole k y) (whole k y')) {n : Noted} {j₁ : List ℕ}
     (noted : SameLevels k s.core → noting n j₁ ≡ add_end used (add_all (changed 0 (fields_of (whole k y)) (fields_of (whole s.core y'))) (noting (begun_at s.walk) j)))
     (r : Done) (is : r ≡ done_by k s n used) (base : ℕ) (w staging : List ℕ)
   where
     abbrev lends : Lent
     lends = lending (length staging)
 
-    went : Settled k y' (Going (record { scalars = k.scalars; at = used })) s base lends act (whole k y) w j w j used
+    went : Settled k y' (Ok (record { scalars = k.scalars; at = used })) s base lends act (whole k y) w j w j used
     went = stored_settled base lends act (whole k y) k y' w j used s p fits settles does
 
-    act_made : r.verdict ≡ Verdict.Accepted
-        → told_done Heard.Nothing r y' w staging j₁ ≡ told_after staging used (perform base lends (levelled act) (world_of (whole k y) w j used))
-    act_made v = told_made k y y' Heard.Nothing used w j w j j₁ fits went.since base lends (levelled act) s n went.later went.left (noted went.levels) r is staging v
+    act_made : r.verdict ≡ (Ok tt)
+        → told_done None r y' w staging j₁ ≡ told_after staging used (perform base lends (levelled act) (world_of (whole k y) w j used))
+    act_made v = told_made k y y' None used w j w j j₁ fits went.since base lends (levelled act) s n went.later went.left (noted went.levels) r is staging v
 
     -- the arrays are put back
-    act_unmade : {why : Refusal} {j₂ : List ℕ} → r.verdict ≡ Verdict.Refused why → j₂ ≡ cleared_from used j₁
-        → told_done Heard.Nothing r y w staging j₂ ≡ told_after staging used (perform base lends (levelled act) (world_of (whole k y) w j used))
-    act_unmade v c = told-cleared k y y' Heard.Nothing used w j w j j₁ fits went.since base lends (levelled act) s n went.later went.left (noted went.levels) r is staging v c
+    act_unmade : {why : Refusal} {j₂ : List ℕ} → r.verdict ≡ Err why → j₂ ≡ cleared_from used j₁
+        → told_done None r y w staging j₂ ≡ told_after staging used (perform base lends (levelled act) (world_of (whole k y) w j used))
+    act_unmade v c = told-cleared k y y' None used w j w j j₁ fits went.since base lends (levelled act) s n went.later went.left (noted went.levels) r is staging v c
 
 -- pending counts
 module _ (k : Core) (s : Reached) (x : Arrays) (q q' : List ℕ) (used : ℕ) (j : List ℕ) (act : Act (Unit {0})) (p : Proper (whole k (counted x q))) (fits : used ≤ length j)
-    (settles : Settles k (Going (record { scalars = k.scalars; at = used })) s) (does : Does act (whole k (counted x q)) (whole k (counted x q')))
+    (settles : Settles k (Ok (record { scalars = k.scalars; at = used })) s) (does : Does act (whole k (counted x q)) (whole k (counted x q')))
     {b t₁ t₂ n : Noted} {j₁ j₂ j₃ : List ℕ} (begins : b ≡ begun_at s.walk) (core : Notes 0 (core_in k) (core_in s.core) b t₁ j j₁) (counts : Part 64 192 q q' t₁ t₂ j₁ j₂)
     (end : noting n j₃ ≡ add_end used (noting t₂ j₂)) (r : Done) (is : r ≡ done_by k s n used) (base : ℕ) (w staging : List ℕ)
   where
     counts_in : SameLevels k s.core → noting n j₃ ≡ add_end used (add_all (changed 0 (fields_of (whole k (counted x q))) (fields_of (whole s.core (counted x q')))) (noting (begun_at s.walk) j))
     counts_in same-sources = counts-noted k s (counted x q) p q' used j begins same-sources core counts end
 
-    pub counts-made : r.verdict ≡ Verdict.Accepted
-        → told_done Heard.Nothing r (counted x q') w staging j₃ ≡ told_after staging used (perform base (lending (length staging)) (levelled act) (world_of (whole k (counted x q)) w j used))
+    pub counts-made : r.verdict ≡ (Ok tt)
+        → told_done None r (counted x q') w staging j₃ ≡ told_after staging used (perform base (lending (length staging)) (levelled act) (world_of (whole k (counted x q)) w j used))
     counts-made v = act_made k s (counted x q) (counted x q') used j act p fits settles does counts_in r is base w staging v
 
-    pub counts-unmade : {why : Refusal} {q₄ j₄ : List ℕ} → r.verdict ≡ Verdict.Refused why → q₄ ≡ q → j₄ ≡ cleared_from used j₃
-        → told_done Heard.Nothing r (counted x q₄) w staging j₄ ≡ told_after staging used (perform base (lending (length staging)) (levelled act) (world_of (whole k (counted x q)) w j used))
+    pub counts-unmade : {why : Refusal} {q₄ j₄ : List ℕ} → r.verdict ≡ Err why → q₄ ≡ q → j₄ ≡ cleared_from used j₃
+        → told_done None r (counted x q₄) w staging j₄ ≡ told_after staging used (perform base (lending (length staging)) (levelled act) (world_of (whole k (counted x q)) w j used))
     counts-unmade v e c = rw e (act_unmade k s (counted x q) (counted x q') used j act p fits settles does counts_in r is base w staging v c)
 
 -- ---- priorities
@@ -334,7 +331,7 @@ module _ (chip : Bool) (l : List ℕ) (ch v : ℕ) where
   priority_does k x = rw priority_set (does-cut (whole k (ordered x l chip)) (PRIORITY ch) v)
 
 module _ (k : Core) (s : Reached) (x : Arrays) (chip : Bool) (l : List ℕ) (ch v used : ℕ) (j : List ℕ) (p : Proper (whole k (ordered x l chip))) (fits : used ≤ length j)
-    (settles : Settles k (Going (record { scalars = k.scalars; at = used })) s) {b t₁ t₂ n : Noted} {j₁ j₂ j₃ : List ℕ} {old new : ℕ} (begins : b ≡ begun_at s.walk)
+    (settles : Settles k (Ok (record { scalars = k.scalars; at = used })) s) {b t₁ t₂ n : Noted} {j₁ j₂ j₃ : List ℕ} {old new : ℕ} (begins : b ≡ begun_at s.walk)
     (core : Notes 0 (core_in k) (core_in s.core) b t₁ j j₁) (was : old ≡ get_or l ch 0 % 2 ^ bits_in chip (PRIORITY 0)) (is-now : new ≡ v % 2 ^ bits_in chip (PRIORITY 0))
     (order : NotesOne 64 768 ch old new t₁ t₂ j₁ j₂) (end : noting n j₃ ≡ add_end used (noting t₂ j₂)) (r : Done) (is : r ≡ done_by k s n used) (base : ℕ) (w staging : List ℕ)
   where
@@ -359,12 +356,12 @@ module _ (k : Core) (s : Reached) (x : Arrays) (chip : Bool) (l : List ℕ) (ch 
         one_noted
         ∙ ap (λ (z : Noted). add_all (changed 0 (fields_of (whole k y)) (fields_of (whole s.core y'))) (noting z j)) begins)
 
-    pub priority_made : r.verdict ≡ Verdict.Accepted
-        → told_done Heard.Nothing r (ordered x (set l ch new) chip) w staging j₃ ≡ told_after staging used (perform base (lending (length staging)) (levelled (put (PRIORITY ch) v)) (world_of (whole k y) w j used))
+    pub priority_made : r.verdict ≡ (Ok tt)
+        → told_done None r (ordered x (set l ch new) chip) w staging j₃ ≡ told_after staging used (perform base (lending (length staging)) (levelled (put (PRIORITY ch) v)) (world_of (whole k y) w j used))
     priority_made e = rw is-now (act_made k s y y' used j (put (PRIORITY ch) v) p fits settles (priority_does chip l ch v k x) noted r is base w staging e)
 
-    pub priority_unmade : {why : Refusal} {l₄ j₄ : List ℕ} → r.verdict ≡ Verdict.Refused why → l₄ ≡ l → j₄ ≡ cleared_from used j₃
-        → told_done Heard.Nothing r (ordered x l₄ chip) w staging j₄ ≡ told_after staging used (perform base (lending (length staging)) (levelled (put (PRIORITY ch) v)) (world_of (whole k y) w j used))
+    pub priority_unmade : {why : Refusal} {l₄ j₄ : List ℕ} → r.verdict ≡ Err why → l₄ ≡ l → j₄ ≡ cleared_from used j₃
+        → told_done None r (ordered x l₄ chip) w staging j₄ ≡ told_after staging used (perform base (lending (length staging)) (levelled (put (PRIORITY ch) v)) (world_of (whole k y) w j used))
     priority_unmade e f c = rw f (act_unmade k s y y' used j (put (PRIORITY ch) v) p fits settles (priority_does chip l ch v k x) noted r is base w staging e c)
 
 -- ---- acknowledge
@@ -375,20 +372,20 @@ unfolding perform Answers
 heard_left base lent m d e w j used h a = rw (a base lent w (take used j) (drop used j)) refl
 
 module _ (k : Core) (x : Arrays) (q q' : List ℕ) (used : ℕ) (j : List ℕ) (m : Act Heard) (h : Heard) (p : Proper (whole k (taking x q))) (fits : used ≤ length j)
-    (answers : Answers m (whole k (taking x q)) h (whole k (taking x q'))) {t n : Noted} {j₁ j₂ : List ℕ} (counts : Part 192 576 q q' (At used) t j j₁)
-    (end : noting n j₂ ≡ add_end used (noting t j₁)) (r : Done) (is : r ≡ done_by k (record { walk = On used; core = k }) n used) (base : ℕ) (w staging : List ℕ)
+    (answers : Answers m (whole k (taking x q)) h (whole k (taking x q'))) {t n : Noted} {j₁ j₂ : List ℕ} (counts : Part 192 576 q q' (Some used) t j j₁)
+    (end : noting n j₂ ≡ add_end used (noting t j₁)) (r : Done) (is : r ≡ done_by k (record { walk = Ok used; core = k }) n used) (base : ℕ) (w staging : List ℕ)
   where
     abbrev left : perform base (lending (length staging)) m (world_of (whole k (taking x q)) w j used) ≡ leave (world_of (whole k (taking x q)) w j used) (ok h (world_of (whole k (taking x q')) w j used))
     left = heard_left base (lending (length staging)) m (whole k (taking x q)) (whole k (taking x q')) w j used h answers
 
-    pub heard_made : r.verdict ≡ Verdict.Accepted
+    pub heard_made : r.verdict ≡ (Ok tt)
         → told_done h r (taking x q') w staging j₂ ≡ told_after staging used (perform base (lending (length staging)) m (world_of (whole k (taking x q)) w j used))
     heard_made v =
-        told_made k (taking x q) (taking x q') h used w j w j j₂ fits (record { front = refl; long = refl }) base (lending (length staging)) m (record { walk = On used; core = k }) n (omega arith) left
+        told_made k (taking x q) (taking x q') h used w j w j j₂ fits (record { front = refl; long = refl }) base (lending (length staging)) m (record { walk = Ok used; core = k }) n (omega arith) left
         (taken-noted k (taking x q) p q' used used j counts end) r is staging v
 
-    pub heard_unmade : {why : Refusal} {j₃ : List ℕ} → r.verdict ≡ Verdict.Refused why → j₃ ≡ cleared_from used j₂
-        → told_done Heard.Nothing r (taking x q) w staging j₃ ≡ told_after staging used (perform base (lending (length staging)) m (world_of (whole k (taking x q)) w j used))
+    pub heard_unmade : {why : Refusal} {j₃ : List ℕ} → r.verdict ≡ Err why → j₃ ≡ cleared_from used j₂
+        → told_done None r (taking x q) w staging j₃ ≡ told_after staging used (perform base (lending (length staging)) m (world_of (whole k (taking x q)) w j used))
     heard_unmade v c =
-        told-cleared k (taking x q) (taking x q') h used w j w j j₂ fits (record { front = refl; long = refl }) base (lending (length staging)) m (record { walk = On used; core = k }) n (omega arith) left
+        told-cleared k (taking x q) (taking x q') h used w j w j j₂ fits (record { front = refl; long = refl }) base (lending (length staging)) m (record { walk = Ok used; core = k }) n (omega arith) left
         (taken-noted k (taking x q) p q' used used j counts end) r is staging v c

@@ -1,5 +1,6 @@
 -- Two outcomes that satisfy a call's contract are equal, but for the bits of priorities that count for nothing; and where it is a refusal, the device
 -- is the one given, those bits too. Assumes nothing.
+use Rattle.std.specs.Prelude.{Err}
 use mathlib.Core.List.{List, []}
 use mathlib.Core.Path.{◌≡◌, sym, ◌∙◌}
 use Prim.Native.Nat.{ℕ}
@@ -9,9 +10,8 @@ use Rattle.rules.specs.declared.Acted.{Acted}
 use Rattle.rules.specs.declared.Device.{Device as HeldDevice}
 use Rattle.rules.specs.State.{Device}
 use Rattle.rules.specs.View.{view}
-use Rattle.rules.specs.declared.Reading.{Reading}
+use Rattle.rules.specs.Verdicts.{Reading}
 use Rattle.rules.specs.declared.Refusal.{Refusal}
-use Rattle.rules.specs.declared.Verdict.TheVariants as Verdict
 use Rattle.rules.proofs.CallLaws.{act_as_given}
 use Rattle.rules.proofs.Told.{given_back, SameActed, SameHeard, told_once, heard_once, reading_once}
 use Rattle.registers.specs.Asked.{Made, MadeHeard}
@@ -30,8 +30,8 @@ unique_reading a b t p q = reading_once a b (p ∙ sym q)
 -- ---- refusals
 
 module _ (d : HeldDevice) (used : ℕ) (j i : List ℕ) (n : Refusal) where
-  pub refused_same : (c : Asked) (a : Acted) → Made c (view d) used a j i → Spared a.verdict d.priorities a.device.priorities → a.verdict ≡ Verdict.Refused n → a.device ≡ d
+  pub refused_same : (c : Asked) (a : Acted) → Made c (view d) used a j i → Spared a.verdict d.priorities a.device.priorities → a.verdict ≡ Err n → a.device ≡ d
   refused_same c a m s v = given_back d a.device [] j used (act_as_given 0 (view d) [] j used c []) a.verdict (m 0 [] []) s n v
 
-  pub refused_same_heard : (ipl : ℕ) (a : Acknowledged) → MadeHeard ipl (view d) used a j i → Spared a.verdict d.priorities a.device.priorities → a.verdict ≡ Verdict.Refused n → a.device ≡ d
+  pub refused_same_heard : (ipl : ℕ) (a : Acknowledged) → MadeHeard ipl (view d) used a j i → Spared a.verdict d.priorities a.device.priorities → a.verdict ≡ Err n → a.device ≡ d
   refused_same_heard ipl a m s v = given_back d a.device [] j used (act_as_given 0 (view d) [] j used (ack ipl) []) a.verdict (m 0 [] []) s n v

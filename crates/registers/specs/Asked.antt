@@ -1,5 +1,5 @@
 -- What the calls promise: all that is there after them, for every base, window and staging. Assumes nothing.
-use Rattle.std.specs.Prelude.{Bool, false, ◌&&◌, List, ◌≡◌, ℕ, ◌+◌, ◌%◌, ltb, length}
+use Rattle.std.specs.Prelude.{Bool, false, ◌&&◌, List, ◌≡◌, ℕ, ◌+◌, ◌%◌, ltb, length, None}
 use Rattle.std.proofs.Math.Option.{Option}
 use Rattle.rules.specs.Act.{Act}
 use Rattle.rules.specs.Calls.{Asked, ack, bad_journal, is_none, or_nothing, check, levelled, Told, told_acted, told_heard, told_after, unless_stopped, world_of, after}
@@ -8,7 +8,7 @@ use Rattle.rules.specs.Registers.{within, in_table}
 use Rattle.rules.specs.declared.Acknowledged.{Acknowledged}
 use Rattle.rules.specs.declared.Acted.{Acted}
 use Rattle.rules.specs.State.{Device}
-use Rattle.rules.specs.declared.Heard.{Heard}
+use Rattle.rules.specs.Verdicts.{Heard}
 use Rattle.rules.proofs.Proper.{Proper}
 use Rattle.act.specs.Does.{Does}
 use Rattle.act.specs.Parts.{Arrays, whole, SameLevels, told_done}
@@ -32,14 +32,14 @@ answered n m base d w staging j used = unless_stopped d w staging j used n (told
 -- of a write within a block: what it does there, if there is such a register, and whether it is refused by 4
 abbrev pub Writes : Option (Act (Unit {0})) → Bool → Core → Done → Arrays → Arrays → List ℕ → List ℕ → ℕ → Type 0
 Writes does past k r x x' j j' used = Proper (whole k x) → (base : ℕ) (w staging : List ℕ)
-    → told_done Heard.Nothing r x' w staging j'
+    → told_done None r x' w staging j'
     ≡ answered (check (is_none does) 3 (check past 4 (check (bad_journal (length j) used) 6 0))) (levelled (or_nothing does)) base (whole k x) w staging j used
 
 -- of an act without a store, which came from core k to e
 abbrev pub Stores : Core → Core → Bool → ℕ → Done → List ℕ → List ℕ → Type 0
 Stores k e levels used r j j' = (x : Arrays) (act : Act (Unit {0})) → Proper (whole k x) → Does act (whole k x) (whole e x) → (levels ≡ false → SameLevels k e)
     → (base : ℕ) (w staging : List ℕ)
-    → told_done Heard.Nothing r x w staging j' ≡ told_after staging used (perform base (lending (length staging)) (levelled act) (world_of (whole k x) w j used))
+    → told_done None r x w staging j' ≡ told_after staging used (perform base (lending (length staging)) (levelled act) (world_of (whole k x) w j used))
 
 -- ---- the calls
 

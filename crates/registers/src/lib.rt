@@ -6,7 +6,6 @@
 
 ghost use Rattle.std.specs.Prelude.{true, false, ◌≡◌, suc, ◌%◌, ◌^◌, ◌≤◌, ◌<◌, length};
 ghost use Rattle.std.proofs.Math.Option.{some};
-ghost use Rattle.rules.specs.declared.Heard.TheVariants as Heard;
 ghost use Rattle.rules.specs.Act.{put, PRIORITY};
 ghost use Rattle.rules.specs.Fields.{bits_in};
 ghost use Rattle.rules.specs.View.{view};
@@ -70,8 +69,8 @@ fn reading(cell: Cell) -> Reading
     ensures { told_reading result ≡ read_unless (check (is_none (reads cell)) 3 0) (reads cell) }
 {
     match cell {
-        Cell::Value(v) => Reading::Value(v),
-        Cell::Nothing => Reading::Refused(Refusal::Register),
+        Cell::Value(v) => Ok(v),
+        Cell::Nothing => Err(Refusal::Register),
     }
 }
 
@@ -80,7 +79,7 @@ fn read_dma(d: Device, off: u32, size: u32) -> Reading
     ensures { told_reading result ≡ read_unless (check (is_none (dma_read (view d) off size)) 3 (check (past_end off size) 4 0)) (dma_read (view d) off size) }
 {
     if past_end(off, size) {
-        return Reading::Refused(Refusal::Crossing);
+        return Err(Refusal::Crossing);
     }
     reading(dma_read::edma_read(d, off, size))
 }
@@ -99,10 +98,10 @@ pub fn read(d: Device, address: u32, size: u32) -> Reading
     ensures { told_reading result ≡ after_read (view d) address size }
 {
     if asking::bad_size(size) {
-        return Reading::Refused(Refusal::Size);
+        return Err(Refusal::Size);
     }
     if !in_blocks(address) {
-        return Reading::Refused(Refusal::Address);
+        return Err(Refusal::Address);
     }
     let off = address % 0x4000;
     let block = block_of(address);
@@ -170,7 +169,7 @@ fn write_priority(
     let order = closing::note_priority(numbers, channel, old, after, journal);
     let r = acting::done(k, s, closing::note_end(order, used, journal), used);
     let verdict = r.verdict;
-    let Verdict::Accepted = verdict else {
+    let Ok(()) = verdict else {
         priorities[channel as usize] = before;
         acting::clear(journal, used);
         return r;
@@ -212,7 +211,7 @@ fn write_dma(
     let s = dma::edma_write(begun, table, pending, off, size, value, journal);
     let r = acting::end_core(k, acting::settle(k, s), false, journal, used);
     let verdict = r.verdict;
-    let Verdict::Accepted = verdict else {
+    let Ok(()) = verdict else {
         *table = before;
         return r;
     };
@@ -269,7 +268,7 @@ pub fn write_in(
     journal: &mut [u8],
     used: usize,
 ) -> Done
-    ensures { ((x : Arrays) → (Calls (write_call address size value) Heard.Nothing k result (ordered (tabled (counted x pending.now) table.old) priorities.old chip) (ordered (tabled (counted x pending.now) table.new) priorities.new chip) ⇒ journal) used) × Spared result.verdict priorities.old priorities.new }
+    ensures { ((x : Arrays) → (Calls (write_call address size value) None k result (ordered (tabled (counted x pending.now) table.old) priorities.old chip) (ordered (tabled (counted x pending.now) table.new) priorities.new chip) ⇒ journal) used) × Spared result.verdict priorities.old priorities.new }
 {
     if asking::bad_size(size) {
         return refused(k, Refusal::Size, used);
@@ -338,7 +337,7 @@ pub fn inputs_in(
     journal: &mut [u8],
     used: usize,
 ) -> Done
-    ensures { (x : Arrays) → (Calls (inputs_call standing lines0 lines1 lines2) Heard.Nothing k result (counted x pending.now) (counted x pending.now) ⇒ journal) used }
+    ensures { (x : Arrays) → (Calls (inputs_call standing lines0 lines1 lines2) None k result (counted x pending.now) (counted x pending.now) ⇒ journal) used }
 {
     if asking::bad_journal(journal.len(), used) {
         return refused(k, Refusal::Journal, used);
@@ -395,7 +394,7 @@ pub fn pending_in(
     journal: &mut [u8],
     used: usize,
 ) -> Done
-    ensures { (x : Arrays) → (Calls (pending_call channel count) Heard.Nothing k result (counted x pending.old) (counted x pending.new) ⇒ journal) used }
+    ensures { (x : Arrays) → (Calls (pending_call channel count) None k result (counted x pending.old) (counted x pending.new) ⇒ journal) used }
 {
     if asking::bad_journal(journal.len(), used) {
         return refused(k, Refusal::Journal, used);
@@ -417,7 +416,7 @@ pub fn pending_in(
     let counts = closing::note_count(numbers, channel, before, after, journal);
     let r = acting::done(k, s, closing::note_end(counts, used, journal), used);
     let verdict = r.verdict;
-    let Verdict::Accepted = verdict else {
+    let Ok(()) = verdict else {
         pending[channel as usize] = before;
         acting::clear(journal, used);
         return r;
@@ -466,7 +465,7 @@ pub fn acknowledge_in(
     if asking::bad_journal(journal.len(), used) {
         return Answered {
             done: refused(k, Refusal::Journal, used),
-            heard: Heard::Nothing,
+            heard: None,
         };
     }
     let before = *taken;
@@ -478,12 +477,12 @@ pub fn acknowledge_in(
     let counts = closing::note_taken(Noted::At(used), &before, taken, journal);
     let r = acting::done(k, s, closing::note_end(counts, used, journal), used);
     let verdict = r.verdict;
-    let Verdict::Accepted = verdict else {
+    let Ok(()) = verdict else {
         *taken = before;
         acting::clear(journal, used);
         return Answered {
             done: r,
-            heard: Heard::Nothing,
+            heard: None,
         };
     };
     Answered { done: r, heard }

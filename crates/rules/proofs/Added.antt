@@ -1,5 +1,6 @@
 -- The pending call of document 02's [1]: refused with 14 exactly if the sum passes 2^32 - 1, once 6 and 8 let it pass, and then all is as it was; and
 -- accepted, it adds to the count of its channel and changes no other. Assumes nothing.
+use Rattle.std.specs.Prelude.{None}
 use mathlib.Core.Bool.{Bool, true, false}
 use mathlib.Core.List.{List}
 use mathlib.Core.Logic.{◌↔◌}
@@ -15,7 +16,7 @@ use Rattle.rules.specs.Calls.{pending, add_pending, levelled, act_of, bad_journa
 use Rattle.rules.specs.Carry.{World, Out, ok, no, After, made, unmade, with_device, last_lines, written, cleared, leave, perform, go, Lent, lending}
 use Rattle.rules.specs.Fields.{bits_of, holds}
 use Rattle.rules.specs.State.{Device}
-use Rattle.rules.specs.declared.Heard.{Heard}
+use Rattle.rules.specs.Verdicts.{Heard}
 use Rattle.rules.proofs.CallLaws.{barred_next, not_stopped, either_way, act_stopped}
 use Rattle.rules.proofs.Each.{Rights, at_done, Properly, each_keeps, proper_field}
 use Rattle.rules.proofs.Proper.{Proper}
@@ -108,7 +109,7 @@ module _ (base : ℕ) (d : Device) (window staging journal : List ℕ) (used ch 
 
   -- 14: all is as it was, staging and the journal's unused room too
   pub sum_refused : wrong base (length window) (length journal) used (pending ch count) ≡ 0 → 2 ^ 32 - 1 < sum
-      → after (pending ch count) base d window staging journal used ≡ told 14 Heard.Nothing d window staging journal used
+      → after (pending ch count) base d window staging journal used ≡ told 14 None d window staging journal used
   unfolding check
   sum_refused right l =
       act_stopped base d window journal used 13 (pending ch count) staging

@@ -1,5 +1,6 @@
 -- What holds all along a row of a bench's calls and take-backs, accepted or refused: window and journal are as long as at the start, whole records
 -- of the journal are used and no more than it has, and the device is proper. Assumes nothing.
+use Rattle.std.specs.Prelude.{None}
 use mathlib.Core.Path.{◌≡◌, refl, sym, ◌∙◌, subst}
 use Prim.Native.Nat.{ℕ, zero, suc, ◌%◌, ◌≤◌}
 use native.Mathlib.Omega.{arith}
@@ -7,7 +8,7 @@ use lib.ListN.{length, length-append}
 use Rattle.rules.specs.Calls.{Told, told, device_told, wrong_back, after, after_back}
 use Rattle.rules.specs.Carry.{World, After, made, unmade}
 use Rattle.rules.specs.TakeBack.{take_back}
-use Rattle.rules.specs.declared.Heard.{Heard}
+use Rattle.rules.specs.Verdicts.{Heard}
 use Rattle.rules.proofs.Bench.{Held, RowCall, act, read, amiss, amiss_back, ended, make_held, back_held, amiss_ends, amiss_back_ends}
 use Rattle.rules.proofs.BenchWorlds.{world_in, held_of, held-world, held_lasts, make_world, make_through, make_lasts, back_through, wrong_through}
 use Rattle.rules.proofs.Proper.{Proper}
@@ -81,7 +82,7 @@ module _ (base n k : ℕ) where
       u = world_in h
 
       by_number : (i : ℕ) → wrong_back base (length h.window) (total u) (length u.used) ≡ i → Ending (SameLengths n k) (back_held base (held_of u))
-      by_number zero e = subst (Ending (SameLengths n k)) (sym (back_through base u e)) (all_as_long n k (λ _. Heard.Nothing) (take_back base u) (back_lasts base u (world_lasts h a)))
+      by_number zero e = subst (Ending (SameLengths n k)) (sym (back_through base u e)) (all_as_long n k (λ _. None) (take_back base u) (back_lasts base u (world_lasts h a)))
       by_number (suc i) e = subst (Ending (SameLengths n k)) (sym (wrong_through base u i e)) (as_long u (world_lasts h a))
 
   pub back_along : (h : Held) → Along n k h → Ending (Along n k) (back_held base h)

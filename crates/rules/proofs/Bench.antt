@@ -8,7 +8,7 @@ use lib.ListN.{length, take}
 use Rattle.rules.specs.Carry.{After, made, unmade}
 use Rattle.rules.specs.Calls.{Asked, wrong, wrong_back, Told, told, after, after_back, ToldRead, told_read, after_read}
 use Rattle.rules.specs.State.{Device}
-use Rattle.rules.specs.declared.Heard.{Heard}
+use Rattle.rules.specs.Verdicts.{Heard}
 use Rattle.rules.proofs.History.{Entry, Walk, walk, Alone}
 use Rattle.rules.proofs.CallLaws.{AsGiven, act_wrong, back_wrong, act_as_given, back_as_given}
 

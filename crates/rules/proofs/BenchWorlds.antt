@@ -1,4 +1,5 @@
 -- What a bench owns, its calls and its rows, as worlds, calls and rows of `Standing`. Assumes nothing.
+use Rattle.std.specs.Prelude.{None}
 use mathlib.Core.List.{List, [], ◌++◌}
 use mathlib.Core.Option.{Option, none, some}
 use mathlib.Core.Path.{◌≡◌, refl, sym, ap, ◌∙◌, subst, subst₂}
@@ -10,7 +11,7 @@ use Rattle.rules.specs.Act.{Act, done}
 use Rattle.rules.specs.Carry.{World, After, made, unmade, cleared, perform, lending, Lent}
 use Rattle.rules.specs.TakeBack.{take_back}
 use Rattle.rules.specs.Calls.{Asked, act_of, wrong, stops, wrong_back, Told, staging_after, world_of, told_after, unless_stopped, after, heard_nothing, after_back, after_read}
-use Rattle.rules.specs.declared.Heard.{Heard}
+use Rattle.rules.specs.Verdicts.{Heard}
 use Rattle.rules.proofs.Free.{Seen, seen, Agree}
 use Rattle.rules.proofs.Took.{total, refused}
 use Rattle.rules.proofs.History.{Entry, walk, Alone}
@@ -86,9 +87,9 @@ lent_to (amiss_back b window journal used bad) = lending 0
 
 abbrev tree_of : RowCall → Act Heard
 tree_of (act c staging) = act_of c
-tree_of (read address size) = done Heard.Nothing
-tree_of (amiss c b window staging journal used bad) = done Heard.Nothing
-tree_of (amiss_back b window journal used bad) = done Heard.Nothing
+tree_of (read address size) = done None
+tree_of (amiss c b window staging journal used bad) = done None
+tree_of (amiss_back b window journal used bad) = done None
 
 abbrev pub call_of : ℕ → RowCall → Call Heard
 call_of base c = record { before = before base c; before_same = before_same base c; lent = lent_to c; act = tree_of c }
@@ -130,15 +131,15 @@ module _ (base : ℕ) where
 
   -- a take-back whose arguments are right
   pub back_through : (u : World) → wrong_back base (length u.now.mem) (total u) (length u.used) ≡ 0
-      → back_held base (held_of u) ≡ carried (λ _. Heard.Nothing) held_of (take_back base u)
+      → back_held base (held_of u) ≡ carried (λ _. None) held_of (take_back base u)
   unfolding back_held after_back unless_stopped
   back_through u right =
       subst₂ (λ n v. ended (unless_stopped u.now.dev u.now.mem [] (u.used ++ u.free) (length u.used) (wrong_back base (length u.now.mem) n (length u.used))
-      (told_after [] (length u.used) (heard_nothing (take_back base v)))) ≡ carried (λ _. Heard.Nothing) held_of (take_back base u))
+      (told_after [] (length u.used) (heard_nothing (take_back base v)))) ≡ carried (λ _. None) held_of (take_back base u))
       (sym (length-append u.used u.free)) (sym (world-held u)) (rw right (taken_back_lem (take_back base u) refl))
     where
       taken_back_lem : (o : After (Unit {0}) World) → take_back base u ≡ o
-          → ended (told_after [] (length u.used) (heard_nothing o)) ≡ carried (λ _. Heard.Nothing) held_of o
+          → ended (told_after [] (length u.used) (heard_nothing o)) ≡ carried (λ _. None) held_of o
       taken_back_lem (made a v) e = unfold told_after heard_nothing in refl
       taken_back_lem (unmade zero v) e = absurd (omega (arith, (back_refused base u zero v e).1))
       taken_back_lem (unmade (suc n) v) e =
@@ -183,7 +184,7 @@ module _ (base : ℕ) (start : Held) (empty : start.used ≡ 0) where
 
   -- where take-backs of worlds that are as long are those of the bench
   module _ (takes_back : World → After (Unit {0}) World) (back_keeps : (u : World) → AsLong start u → Ending (AsLong start) (takes_back u))
-      (back_is : (u : World) → AsLong start u → back_held base (held_of u) ≡ carried (λ _. Heard.Nothing) held_of (takes_back u))
+      (back_is : (u : World) → AsLong start u → back_held base (held_of u) ≡ carried (λ _. None) held_of (takes_back u))
     where
       pub row_as_long : (row : List (Entry RowCall)) → AsLong start (walk (make_world base) takes_back (world_in start) row).here
       row_as_long row = walk_keeps (make_world base) takes_back (AsLong start) (make_lasts base) back_keeps (world_in start) first_as_long row
@@ -191,4 +192,4 @@ module _ (base : ℕ) (start : Held) (empty : start.used ≡ 0) where
       pub row_is : (row : List (Entry RowCall)) → walked base start row ≡ carried_walk held_of (walk (make_world base) takes_back (world_in start) row)
       row_is row =
           subst (λ h. walked base h row ≡ carried_walk held_of (walk (make_world base) takes_back (world_in start) row)) first-held
-          (walk_through (make_world base) (make_held base) held_of (AsLong start) (make_lasts base) (λ c u _. make_through base c u) takes_back (back_held base) (λ _. Heard.Nothing) back_keeps back_is (world_in start) first_as_long row)
+          (walk_through (make_world base) (make_held base) held_of (AsLong start) (make_lasts base) (λ c u _. make_through base c u) takes_back (back_held base) (λ _. None) back_keeps back_is (world_in start) first_as_long row)

@@ -1,4 +1,5 @@
 -- The outcomes of `specs/Calls.antt`: each is fixed in every part; a refusal gives back what was given; and how 9, 10 and 11 roll back. Assumes nothing.
+use Rattle.std.specs.Prelude.{None}
 use mathlib.Core.Bool.{Bool, true, false, not, ◌||◌}
 use mathlib.Core.List.{List, [], ◌∷◌, ◌++◌}
 use mathlib.Core.Path.{◌≡◌, refl, sym, ap, ap₂, ◌∙◌, subst}
@@ -15,7 +16,7 @@ use Rattle.rules.specs.Carry.{Machine, World, ok, no, lines_of, go, After, made,
 use Rattle.rules.specs.TakeBack.{decode_all, take_back}
 use Rattle.rules.specs.Calls.{Asked, write, inputs, pending, run, service, ack, act_of, bad_window, bad_journal, check, wrong, first, barred, stops, wrong_back, Told, told, staging_after, world_of, told_after, unless_stopped, after, heard_nothing, after_back, ToldRead, told_read, after_read}
 use Rattle.rules.specs.State.{Device}
-use Rattle.rules.specs.declared.Heard.{Heard}
+use Rattle.rules.specs.Verdicts.{Heard}
 use Rattle.rules.proofs.BoolLaws.{neither}
 use Rattle.rules.proofs.Steps.{bind_ok, go-endless, leave_full, leave_refused}
 use Rattle.rules.proofs.Keeps.{Good}
@@ -76,7 +77,7 @@ not_stopped base window journal used c d = first_none (wrong base window journal
 
 -- a fact of what a call tells: it holds of what is there if nothing is done, and of what the act left if nothing stops it
 module _ (P : Told → Type 0) (d : Device) (window staging journal : List ℕ) (used : ℕ) where
-  pub either_way : (n : ℕ) {acted : Told} → ((k : ℕ) → n ≡ suc k → P (told (suc k) Heard.Nothing d window staging journal used)) → (n ≡ 0 → P acted)
+  pub either_way : (n : ℕ) {acted : Told} → ((k : ℕ) → n ≡ suc k → P (told (suc k) None d window staging journal used)) → (n ≡ 0 → P acted)
       → P (unless_stopped d window staging journal used n acted)
   unfolding unless_stopped
   either_way zero f g = g refl
@@ -86,16 +87,16 @@ module _ (P : Told → Type 0) (d : Device) (window staging journal : List ℕ) 
 
 module _ (base : ℕ) (d : Device) (window journal : List ℕ) (used n : ℕ) where
   pub act_stopped : (c : Asked) (staging : List ℕ) → stops base (length window) (length journal) used c d ≡ suc n
-      → after c base d window staging journal used ≡ told (suc n) Heard.Nothing d window staging journal used
+      → after c base d window staging journal used ≡ told (suc n) None d window staging journal used
   unfolding after unless_stopped
   act_stopped c staging e = rw e
 
   pub act_wrong : (c : Asked) (staging : List ℕ) → wrong base (length window) (length journal) used c ≡ suc n
-      → after c base d window staging journal used ≡ told (suc n) Heard.Nothing d window staging journal used
+      → after c base d window staging journal used ≡ told (suc n) None d window staging journal used
   act_wrong c staging e = act_stopped c staging (wrong_first base (length window) (length journal) used n c d e)
 
   pub back_wrong : wrong_back base (length window) (length journal) used ≡ suc n
-      → after_back base d window journal used ≡ told (suc n) Heard.Nothing d window [] journal used
+      → after_back base d window journal used ≡ told (suc n) None d window [] journal used
   unfolding after_back unless_stopped
   back_wrong e = rw e
 
@@ -223,13 +224,13 @@ module _ (c : Asked) (base : ℕ) (d : Device) (window staging journal : List �
         ap (λ g. undo base g (record { mem = v.now.mem; dev = with_table d v.now.dev.table })) records ∙ r.3
 
     told_refused : (n : ℕ) → perform base (lending (length staging)) (act_of c) (world_of d window journal used) ≡ unmade n (cleared (world_of d window journal used))
-        → after c base d window staging journal used ≡ told n Heard.Nothing d window (staging_after c staging) (take used journal ++ replicate (length journal - used) 0) used
+        → after c base d window staging journal used ≡ told n None d window (staging_after c staging) (take used journal ++ replicate (length journal - used) 0) used
     unfolding cleared told_after
     told_refused n e = act_goes base d window journal used c staging right ∙ rw (e, told_after, length-drop used journal)
 
     -- an act refused at a step: undoing its records gives back window and device
     pub rolls_back : (n : ℕ) (v : World) → go base (lending (length staging)) (act_of c) (world_of d window journal used) ≡ no n v
-        → (after c base d window staging journal used ≡ told n Heard.Nothing d window (staging_after c staging) (take used journal ++ replicate (length journal - used) 0) used)
+        → (after c base d window staging journal used ≡ told n None d window (staging_after c staging) (take used journal ++ replicate (length journal - used) 0) used)
         × (rolled_back base d used v ≡ record { mem = window; dev = d })
     unfolding perform
     rolls_back n v e = (told_refused n (ap (leave (world_of d window journal used)) e ∙ leave_refused (world_of d window journal used) v n), records_undone (act_of c) n v e)
@@ -237,7 +238,7 @@ module _ (c : Asked) (base : ℕ) (d : Device) (window staging journal : List �
     -- and one refused at the end, where the records of its fields and the end record do not fit
     pub full_rolls_back : (heard : Heard) (v : World) → go base (lending (length staging)) (act_of c) (world_of d window journal used) ≡ ok heard v
         → length v.free < length (last_lines (world_of d window journal used) v)
-        → (after c base d window staging journal used ≡ told 11 Heard.Nothing d window (staging_after c staging) (take used journal ++ replicate (length journal - used) 0) used)
+        → (after c base d window staging journal used ≡ told 11 None d window (staging_after c staging) (take used journal ++ replicate (length journal - used) 0) used)
         × (rolled_back base d used v ≡ record { mem = window; dev = d })
     unfolding perform
     full_rolls_back heard v e full =

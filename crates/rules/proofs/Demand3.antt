@@ -1,5 +1,6 @@
 -- Demand 3 for the calls of document 01 as their contracts state them: from an empty journal, after any row of calls and take-backs, window,
 -- device and used journal are what the calls still standing, made alone in order, give; and what a take-back does there. Assumes nothing.
+use Rattle.std.specs.Prelude.{None}
 use mathlib.Core.Bool.{true, false}
 use mathlib.Core.List.{List, [], ◌∷◌}
 use mathlib.Core.Logic.{◌↔◌}
@@ -13,7 +14,7 @@ use Rattle.rules.specs.TakeBack.{take_back}
 use Rattle.rules.specs.Calls.{bad_window, wrong_back}
 use Rattle.rules.specs.View.{view}
 use Rattle.rules.specs.declared.Device.{Device as HeldDevice}
-use Rattle.rules.specs.declared.Heard.{Heard}
+use Rattle.rules.specs.Verdicts.{Heard}
 use Rattle.rules.proofs.FieldLaws.{Sound}
 use Rattle.rules.proofs.Keeps.{Good}
 use Rattle.rules.proofs.Typed.{Typed, table-size, sound}
@@ -51,7 +52,7 @@ typed_start base d window journal typed room passes bytes = record {
 module _ (base : ℕ) (start : Held) (begins : Start base start) where
   -- ---- the bench's rows are rows of worlds, and what `Standing` asks of their start holds
 
-  back_is : (u : World) → AsLong start u → back_held base (held_of u) ≡ carried (λ _. Heard.Nothing) held_of (take_back base u)
+  back_is : (u : World) → AsLong start u → back_held base (held_of u) ≡ carried (λ _. None) held_of (take_back base u)
   back_is u l =
       back_through base u
       (back_right base (length u.now.mem) (total u) (length u.used) (ap (bad_window base) l.window_is ∙ begins.window_passes)
@@ -64,7 +65,7 @@ module _ (base : ℕ) (start : Held) (begins : Start base start) where
   seen_there : (P : Walk RowCall Heard Held → Type 0) (row : List (Entry RowCall)) → P (record { here = held_of (worlds row).here; standing = (worlds row).standing }) → P (walked base start row)
   seen_there P row = subst⁻¹ P (row_is base start begins.empty (take_back base) (back_lasts base) back_is row)
 
-  back_there : (row : List (Entry RowCall)) → back_held base (held_of (worlds row).here) ≡ carried (λ _. Heard.Nothing) held_of (take_back base (worlds row).here)
+  back_there : (row : List (Entry RowCall)) → back_held base (held_of (worlds row).here) ≡ carried (λ _. None) held_of (take_back base (worlds row).here)
   back_there row = back_is (worlds row).here (row_as_long base start begins.empty (take_back base) (back_lasts base) back_is row)
 
   refused_there : (row : List (Entry RowCall)) (n : ℕ) (h : Held) → back_held base (held_of (worlds row).here) ≡ unmade n h
@@ -74,7 +75,7 @@ module _ (base : ℕ) (start : Held) (begins : Start base start) where
       u : World
       u = (worlds row).here
 
-      by_end : (o : After (Unit {0}) World) → take_back base u ≡ o → carried (λ (_ : Unit {0}). Heard.Nothing) held_of o ≡ unmade n h → take_back base u ≡ unmade n u
+      by_end : (o : After (Unit {0}) World) → take_back base u ≡ o → carried {B = Heard} (λ (_ : Unit {0}). None) held_of o ≡ unmade n h → take_back base u ≡ unmade n u
       by_end (made a v) f g = let z : ◌≡◌ {A = ℕ} 0 1 = cc in absurd (omega arith)
       by_end (unmade k v) f g = let p : k ≡ n = cc in f ∙ ap₂ (λ i w. unmade i w) p (back_refused base u k v f).0
 
@@ -104,13 +105,13 @@ module _ (base : ℕ) (start : Held) (begins : Start base start) where
 
   -- where one stands, a take-back is made, and leads to what the others, made alone in order, give
   pub last_taken_back : (row : List (Entry RowCall)) (c : RowCall × Heard) (cs : List (RowCall × Heard)) → let s = walked base start row in s.standing ≡ c ∷ cs
-      → (h k : Held) × (back_held base s.here ≡ made Heard.Nothing h) × MadeAlone base start cs k × (compared h ≡ compared k)
+      → (h k : Held) × (back_held base s.here ≡ made None h) × MadeAlone base start cs k × (compared h ≡ compared k)
   last_taken_back row c cs =
-      seen_there (λ s. s.standing ≡ c ∷ cs → (h k : Held) × (back_held base s.here ≡ made Heard.Nothing h) × MadeAlone base start cs k × (compared h ≡ compared k)) row (λ e.
+      seen_there (λ s. s.standing ≡ c ∷ cs → (h k : Held) × (back_held base s.here ≡ made None h) × MadeAlone base start cs k × (compared h ≡ compared k)) row (λ e.
       let r = undoes_last (call_of base) base (world_in start) good none_used few row c cs e in (
         held_of r.0,
         held_of r.1,
-        back_there row ∙ ap (carried (λ (_ : Unit {0}). Heard.Nothing) held_of) r.2,
+        back_there row ∙ ap (carried (λ (_ : Unit {0}). None) held_of) r.2,
         alone_is base start begins.empty r.3,
         compared_held r.0 ∙ ap shown r.4 ∙ sym (compared_held r.1),
       ))
@@ -121,7 +122,7 @@ module _ (base : ℕ) (start : Held) (begins : Start base start) where
       let r = refused_12 (call_of base) base (world_in start) good none_used few row in
       seen_there (λ s. (back_held base s.here ≡ unmade 12 s.here) ↔ (s.standing ≡ [])) row (
         λ e. r.0 (refused_there row 12 (held_of (worlds row).here) e),
-        λ e. back_there row ∙ ap (carried (λ (_ : Unit {0}). Heard.Nothing) held_of) (r.1 e),
+        λ e. back_there row ∙ ap (carried (λ (_ : Unit {0}). None) held_of) (r.1 e),
       )
 
   -- and there is no other refusal of it
@@ -129,7 +130,7 @@ module _ (base : ℕ) (start : Held) (begins : Start base start) where
   refused_only_12 row n h =
       seen_there (λ s. back_held base s.here ≡ unmade n h → (n ≡ 12) × (h ≡ s.here)) row (λ e.
       let r = refused_there row n h e in
-      let f = back_there row ∙ ap (carried (λ (_ : Unit {0}). Heard.Nothing) held_of) r in
+      let f = back_there row ∙ ap (carried (λ (_ : Unit {0}). None) held_of) r in
       (by-standing (worlds row).standing refl r, cc))
     where
       by-standing : (cs : List (RowCall × Heard)) → (worlds row).standing ≡ cs → take_back base (worlds row).here ≡ unmade n (worlds row).here → n ≡ 12

@@ -17,7 +17,7 @@ use Rattle.rules.specs.Words.{has, gain, lose, lowest}
 use Rattle.rules.specs.Minor.{START, DONE, descriptor, pass}
 use Rattle.rules.specs.Run.{offered, requesting, start_loop, start_passes, line_loop, line_passes, paced, serve_line, request_loop, request_passes, serve, turn, turns, run_turns, chip_turns, run_all, release, service_all}
 use Rattle.rules.specs.Calls.{Asked, write, inputs, pending, run, service, ack, levelled, act_of, bad_journal, wrong, world_of}
-use Rattle.rules.specs.declared.Heard.{Heard}
+use Rattle.rules.specs.Verdicts.{Heard}
 use Rattle.rules.proofs.BoolLaws.{and_left, and_right}
 use Rattle.rules.proofs.FieldLaws.{holds_fits}
 use Rattle.rules.proofs.Steps.{and_then, go_bind, bind_ok, ask-does}

@@ -1,4 +1,5 @@
 -- What an act can hear: nothing, or a level from 1 to 7 and a vector from 64 to 255. Assumes nothing.
+use Rattle.std.specs.Prelude.{Some, None}
 use mathlib.Core.Bool.{Bool, true, false, cond, not, ◌&&◌}
 use mathlib.Core.List.{List, []}
 use mathlib.Core.Path.{◌≡◌, refl}
@@ -15,13 +16,13 @@ use Rattle.rules.specs.Lines.{sources, level_bytes, relevel, answers, Found, lou
 use Rattle.rules.specs.TakeBack.{take_back}
 use Rattle.rules.specs.Words.{has}
 use Rattle.rules.specs.State.{Device}
-use Rattle.rules.specs.declared.Heard.{Heard}
+use Rattle.rules.specs.Verdicts.{Heard}
 use Rattle.rules.proofs.CallLaws.{either_way}
 use Rattle.rules.proofs.Leads.{IfAnswered, Leads, leads_bind, leads_then, leads_done, leads_cond, shrinks}
 
 abbrev pub Audible : Heard → Type 0
-Audible Heard.Nothing = Unit {0}
-Audible (Heard.Source l v) = (0 < l) × (l < 8) × (64 ≤ v) × (v < 256)
+Audible None = Unit {0}
+Audible (Some source) = (0 < source.level) × (source.level < 8) × (64 ≤ source.vector) × (source.vector < 256)
 
 -- ---- what is found
 
@@ -104,12 +105,12 @@ act_hears c base d window staging journal used =
         ]
 
 -- a take-back hears nothing
-pub back_hears : (base : ℕ) (d : Device) (window journal : List ℕ) (used : ℕ) → heard_told (after_back base d window journal used) ≡ Heard.Nothing
+pub back_hears : (base : ℕ) (d : Device) (window journal : List ℕ) (used : ℕ) → heard_told (after_back base d window journal used) ≡ None
 unfolding after_back
 back_hears base d window journal used =
-    either_way (λ t. heard_told t ≡ Heard.Nothing) d window [] journal used (wrong_back base (length window) (length journal) used) (λ k _. refl)
+    either_way (λ t. heard_told t ≡ None) d window [] journal used (wrong_back base (length window) (length journal) used) (λ k _. refl)
     (λ _. by_end (take_back base (world_of d window journal used)))
   where
-    by_end : (o : After (Unit {0}) World) → heard_told (told_after [] used (heard_nothing o)) ≡ Heard.Nothing
+    by_end : (o : After (Unit {0}) World) → heard_told (told_after [] used (heard_nothing o)) ≡ None
     by_end (made a v) = unfold told_after heard_nothing in refl
     by_end (unmade n v) = unfold told_after heard_nothing in refl

@@ -1,5 +1,6 @@
 -- Document 01's marked examples, by computation: P1 to P10 as one table, the 'Run only' listing byte for byte, and the run taken back.
 -- Assumes nothing.
+use Rattle.std.specs.Prelude.{None}
 use mathlib.Core.Bool.{Bool, false, cond}
 use mathlib.Core.List.{List, [], ◌∷◌, ◌++◌}
 use mathlib.Core.Path.{◌≡◌, refl}
@@ -7,7 +8,7 @@ use Prim.Native.Nat.{ℕ, ◌-◌, ◌^◌}
 use lib.Count.{count_trailing_zeros}
 use lib.ListN.{replicate}
 use Rattle.rules.specs.State.{Device}
-use Rattle.rules.specs.declared.Heard.{Heard}
+use Rattle.rules.specs.Verdicts.{Heard}
 use Rattle.rules.specs.declared.Tcd.{Tcd}
 use Rattle.rules.specs.Act.{Act, Done, Endless, Stage, Fetch, Store, Ask, Put, Look, acts, FORCED, MAJORS, PENDING, SOURCE}
 use Rattle.rules.specs.Scalars.{ERQ, KICK}
@@ -160,7 +161,7 @@ unfoldable pub taken_back : Told → Told
 taken_back (told n heard d w s j u) = after_back 0x80000000 d w j u
 
 -- taken back: window and device are as they were, the group's bytes are zero and the rest unchanged
-pub run_back : taken_back ran ≡ told 0 Heard.Nothing device₀ window₀ [] (replicate 192 0 ++ replicate 16 0xEE) 0
+pub run_back : taken_back ran ≡ told 0 None device₀ window₀ [] (replicate 192 0 ++ replicate 16 0xEE) 0
 unfolding taken_back ran window₀ device₀ journal₀ tcd count_trailing_zeros acts bytes_rules words fields carry minor runs lines_rules calls takes
 run_back = refl
 
@@ -168,6 +169,6 @@ run_back = refl
 unfoldable pub short : Told
 short = after (run 0 0) 0x80000000 device₀ window₀ (0xAA ∷ []) (replicate 181 0xEE) 0
 
-pub run_short : short ≡ told 11 Heard.Nothing device₀ window₀ (0 ∷ []) (replicate 181 0) 0
+pub run_short : short ≡ told 11 None device₀ window₀ (0 ∷ []) (replicate 181 0) 0
 unfolding short window₀ device₀ tcd count_trailing_zeros acts bytes_rules words fields carry minor runs lines_rules calls
 run_short = refl

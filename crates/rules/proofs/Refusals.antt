@@ -15,7 +15,7 @@ use Rattle.rules.specs.Fields.{holds, setting_of}
 use Rattle.rules.specs.Registers.{in_blocks, block_of, offset_of, write_at, read_at, past_table, past_word}
 use Rattle.rules.specs.TakeBack.{take_back}
 use Rattle.rules.specs.State.{Device}
-use Rattle.rules.specs.declared.Heard.{Heard}
+use Rattle.rules.specs.Verdicts.{Heard}
 use Rattle.rules.proofs.Bench.{read_number}
 use Rattle.rules.proofs.CallLaws.{not_stopped, either_way}
 use Rattle.rules.proofs.Each.{Rights, Each, at_done, at_endless, at_stage, at_fetch, at_store, at_ask, at_put, at_look, each_change, proper-store, proper-put, fetched_length}

@@ -17,7 +17,7 @@ use Rattle.rules.specs.Fields.{bits_in, setting_of, with_field, field_at, with_s
 use Rattle.rules.specs.TakeBack.{marked, kind, width, place, value, sound_field, sound_kind, sound, all_sound, rec_of, decode, decode_all, take_back}
 use Rattle.rules.specs.With.{with_table}
 use Rattle.rules.specs.State.{Device}
-use Rattle.rules.specs.declared.Heard.{Heard}
+use Rattle.rules.specs.Verdicts.{Heard}
 use Rattle.rules.proofs.BoolLaws.{and_left, and_right}
 use Rattle.rules.proofs.CallLaws.{either_way}
 use Rattle.rules.proofs.Each.{proper-table, proper_field}

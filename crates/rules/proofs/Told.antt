@@ -1,5 +1,6 @@
 -- Two answers that tell the same are the same, with what is there beside them: every contract over `told_acted`, `told_heard` or `told_reading` fixes
 -- its outcome. Assumes nothing.
+use Rattle.std.specs.Prelude.{Ok, Err}
 use mathlib.Core.List.{List, [], ◌∷◌, map}
 use mathlib.Core.Path.{◌≡◌, refl, sym, ap, ap₂, ◌∙◌, subst}
 use Prim.Native.Nat.{ℕ, suc, ◌-◌}
@@ -12,10 +13,10 @@ use Rattle.rules.specs.declared.Acknowledged.{Acknowledged}
 use Rattle.rules.specs.declared.Acted.{Acted}
 use Rattle.rules.specs.declared.Controller.{Controller as HeldController}
 use Rattle.rules.specs.declared.Device.{Device as HeldDevice}
-use Rattle.rules.specs.declared.Heard.{Heard}
-use Rattle.rules.specs.declared.Reading.{Reading}
+use Rattle.rules.specs.Verdicts.{Heard}
+use Rattle.rules.specs.Verdicts.{Reading}
 use Rattle.rules.specs.declared.Refusal.{Refusal}
-use Rattle.rules.specs.declared.Verdict.{Verdict}
+use Rattle.rules.specs.Verdicts.{Verdict}
 use Rattle.rules.proofs.CallLaws.{AsGiven}
 use Rattle.rules.proofs.ScalarLaws.{scalars_once}
 
@@ -65,10 +66,10 @@ refusal_once : (r s : Refusal) → refusal_number r ≡ refusal_number s → r �
 refusal_once r s e = sym (refusal_back r) ∙ ap (λ n. refusal_at (n - 1)) e ∙ refusal_back s
 
 verdict_once : (v w : Verdict) → verdict_number v ≡ verdict_number w → v ≡ w
-verdict_once Verdict.Accepted Verdict.Accepted e = refl
-verdict_once Verdict.Accepted (Verdict.Refused s) e = absurd (refusal_counts s (sym e))
-verdict_once (Verdict.Refused r) Verdict.Accepted e = absurd (refusal_counts r e)
-verdict_once (Verdict.Refused r) (Verdict.Refused s) e = ap (λ x. Verdict.Refused x) (refusal_once r s e)
+verdict_once (Ok u) (Ok v) e = refl
+verdict_once (Ok u) (Err s) e = absurd (refusal_counts s (sym e))
+verdict_once (Err r) (Ok u) e = absurd (refusal_counts r e)
+verdict_once (Err r) (Err s) e = ap (λ x. Err x) (refusal_once r s e)
 
 -- ---- what stands for the same is the same
 
@@ -142,7 +143,7 @@ heard_once a b e = (
 -- ---- a refusal: the device is the one given, those bits too where the call spares them
 
 pub given_back : (d e : HeldDevice) (window journal : List ℕ) (used : ℕ) {t : Told} → AsGiven (view d) window journal used t → (v : Verdict) {h : Heard} {w s j : List ℕ} {u : ℕ}
-    → told (verdict_number v) h (view e) w s j u ≡ t → Spared v d.priorities e.priorities → (n : Refusal) → v ≡ Verdict.Refused n → e ≡ d
+    → told (verdict_number v) h (view e) w s j u ≡ t → Spared v d.priorities e.priorities → (n : Refusal) → v ≡ Err n → e ≡ d
 given_back d e window journal used given v {h} {w} {s} {j} {u} tells spared n is =
     let back : AsGiven (view d) window journal used (told (verdict_number v) h (view e) w s j u) = subst (AsGiven (view d) window journal used) (sym tells) given in
     view_once e d (rw (is, (refusal_suc n).1) at back).0 ∙ ap (prioritized d) (spared n is)
@@ -150,7 +151,7 @@ given_back d e window journal used given v {h} {w} {s} {j} {u} tells spared n is
 -- ---- a register read
 
 pub reading_once : (a b : Reading) → told_reading a ≡ told_reading b → a ≡ b
-reading_once (Reading.Value v) (Reading.Value w) e = let p : v ≡ w = cc e in ap (λ x. Reading.Value x) p
-reading_once (Reading.Value v) (Reading.Refused s) e = let p : 0 ≡ refusal_number s = cc e in absurd (refusal_counts s (sym p))
-reading_once (Reading.Refused r) (Reading.Value w) e = let p : refusal_number r ≡ 0 = cc e in absurd (refusal_counts r p)
-reading_once (Reading.Refused r) (Reading.Refused s) e = ap (λ x. Reading.Refused x) (refusal_once r s (cc e))
+reading_once (Ok v) (Ok w) e = let p : v ≡ w = cc e in ap (λ x. Ok x) p
+reading_once (Ok v) (Err s) e = let p : 0 ≡ refusal_number s = cc e in absurd (refusal_counts s (sym p))
+reading_once (Err r) (Ok w) e = let p : refusal_number r ≡ 0 = cc e in absurd (refusal_counts r p)
+reading_once (Err r) (Err s) e = ap (λ x. Err x) (refusal_once r s (cc e))

@@ -1,6 +1,6 @@
 -- Document 01, "The calls" and "Refusal numbers", with document 02's [1] and [10]: what each call is given, what refuses it before anything is done, its
 -- act, and all that is there after it. Assumes nothing.
-use Rattle.std.specs.Prelude.{Bool, true, false, cond, not, ◌||◌, List, [], ◌∷◌, ◌++◌, ◌≡◌, ℕ, zero, suc, ◌+◌, ◌-◌, ◌%◌, ◌^◌, eqb, ltb, length, replicate, take, drop}
+use Rattle.std.specs.Prelude.{Bool, true, false, cond, not, ◌||◌, List, [], ◌∷◌, ◌++◌, ◌≡◌, ℕ, zero, suc, ◌+◌, ◌-◌, ◌%◌, ◌^◌, eqb, ltb, length, replicate, take, drop, Some, None, Ok, Err}
 use Rattle.std.proofs.Math.Option.{Option, none, some}
 use Rattle.std.specs.Int.Bits.{bit_and, bit_or}
 use Rattle.rules.specs.Act.{Act, done, nothing, ask, put, change, ◌>>=◌, ◌>>◌, LINES, PENDING}
@@ -15,10 +15,8 @@ use Rattle.rules.specs.declared.Acknowledged.{Acknowledged}
 use Rattle.rules.specs.declared.Acted.{Acted}
 use Rattle.rules.specs.State.{Controller, Device}
 use Rattle.rules.specs.View.{view}
-use Rattle.rules.specs.declared.Heard.{Heard}
 use Rattle.rules.specs.declared.Refusal.{Refusal}
-use Rattle.rules.specs.declared.Verdict.{Verdict}
-use Rattle.rules.specs.declared.Reading.{Reading}
+use Rattle.rules.specs.Verdicts.{Verdict, Reading, Heard}
 
 -- ---- the answers' numbers
 
@@ -40,26 +38,26 @@ refusal_number Refusal.Count = 14
 
 -- 0: accepted
 abbrev pub verdict_number : Verdict → ℕ
-verdict_number Verdict.Accepted = 0
-verdict_number (Verdict.Refused r) = refusal_number r
+verdict_number (Ok accepted) = 0
+verdict_number (Err r) = refusal_number r
 
 -- level and vector; 0 and 0 where nothing was found
 abbrev pub heard_level : Heard → ℕ
-heard_level Heard.Nothing = 0
-heard_level (Heard.Source level vector) = level
+heard_level None = 0
+heard_level (Some source) = source.level
 
 abbrev pub heard_vector : Heard → ℕ
-heard_vector Heard.Nothing = 0
-heard_vector (Heard.Source level vector) = vector
+heard_vector None = 0
+heard_vector (Some source) = source.vector
 
 -- the number of a reading, 0 where it is a value; and the value, 0 where it is refused
 abbrev pub reading_number : Reading → ℕ
-reading_number (Reading.Value v) = 0
-reading_number (Reading.Refused r) = refusal_number r
+reading_number (Ok v) = 0
+reading_number (Err r) = refusal_number r
 
 abbrev pub reading_value : Reading → ℕ
-reading_value (Reading.Value v) = v
-reading_value (Reading.Refused r) = 0
+reading_value (Ok v) = v
+reading_value (Err r) = 0
 
 -- ---- a fresh device: zero in every field, except masks (all ones) and deadline (2^64 - 1), and in the chip's mode priorities (the channel's own
 -- number)
@@ -127,7 +125,7 @@ unfoldable pub levelled : Act (Unit {0}) → Act Heard
 levelled m = do
   m
   relevel
-  done Heard.Nothing
+  done None
 
 unfoldable pub act_of : Asked → Act Heard
 act_of (write address size v) = levelled (or_nothing (write_at address size v))
@@ -230,14 +228,14 @@ journal_told (told n heard d window staging journal used) = journal
 
 -- what an answer tells, with window, staging and journal as they are then
 abbrev pub told_acted : Acted → List ℕ → List ℕ → List ℕ → Told
-told_acted r window staging journal = told (verdict_number r.verdict) Heard.Nothing (view r.device) window staging journal r.used
+told_acted r window staging journal = told (verdict_number r.verdict) None (view r.device) window staging journal r.used
 
 abbrev pub told_heard : Acknowledged → List ℕ → List ℕ → List ℕ → Told
 told_heard r window staging journal = told (verdict_number r.verdict) r.heard (view r.device) window staging journal r.used
 
 -- where a call is refused, those bits of priorities that count for nothing (`View`) are as they were too: of all that are held, before and after it
 abbrev pub Spared : Verdict → List ℕ → List ℕ → Type 0
-Spared v held held' = (n : Refusal) → v ≡ Verdict.Refused n → held' ≡ held
+Spared v held held' = (n : Refusal) → v ≡ Err n → held' ≡ held
 
 -- staging is all zero after every run or service that is not refused before anything is done, and otherwise unchanged
 unfoldable pub staging_after : Asked → List ℕ → List ℕ
@@ -254,14 +252,14 @@ world_of d window journal used = record { now = record { mem = window; dev = d }
 -- after a refusal the used length is the one given
 unfoldable pub told_after : List ℕ → ℕ → After Heard World → Told
 told_after staging used (made heard u) = told 0 heard u.now.dev u.now.mem staging (u.used ++ u.free) (length u.used)
-told_after staging used (unmade n u) = told n Heard.Nothing u.now.dev u.now.mem staging (u.used ++ u.free) used
+told_after staging used (unmade n u) = told n None u.now.dev u.now.mem staging (u.used ++ u.free) used
 
 -- of a call that is given this device, window, staging, journal and used length: stopped with a number, it tells them as they are; else, 0, what
 -- its act left
 module _ (d : Device) (window staging journal : List ℕ) (used : ℕ) where
   unfoldable pub unless_stopped : ℕ → Told → Told
   unless_stopped zero acted = acted
-  unless_stopped (suc n) acted = told (suc n) Heard.Nothing d window staging journal used
+  unless_stopped (suc n) acted = told (suc n) None d window staging journal used
 
 -- base address; device, window, staging, journal and used length as the call is given them
 unfoldable pub after : Asked → ℕ → Device → List ℕ → List ℕ → List ℕ → ℕ → Told
@@ -270,7 +268,7 @@ after c base d window staging journal used =
     (told_after (staging_after c staging) used (perform base (lending (length staging)) (act_of c) (world_of d window journal used)))
 
 unfoldable pub heard_nothing : {A : Type 0} → After A World → After Heard World
-heard_nothing (made a u) = made Heard.Nothing u
+heard_nothing (made a u) = made None u
 heard_nothing (unmade n u) = unmade n u
 
 -- take back: it has no staging

@@ -12,4 +12,5 @@ pub mod Run
 pub mod Lines
 pub mod Registers
 pub mod TakeBack
+pub mod Verdicts
 pub mod Calls

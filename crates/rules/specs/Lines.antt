@@ -1,10 +1,10 @@
 -- Document 01, "Run, service, controllers": lines, level, acknowledge. Assumes nothing.
-use Rattle.std.specs.Prelude.{Bool, cond, not, ◌&&◌, ◌||◌, List, [], ◌∷◌, ℕ, zero, suc, ◌+◌, ◌*◌, ◌/◌, ◌%◌, ◌^◌, max, eqb, leb, ltb, get_or}
+use Rattle.std.specs.Prelude.{Bool, cond, not, ◌&&◌, ◌||◌, List, [], ◌∷◌, ℕ, zero, suc, ◌+◌, ◌*◌, ◌/◌, ◌%◌, ◌^◌, max, eqb, leb, ltb, get_or, Some, None}
 use Rattle.std.specs.Int.Bits.{bit_or}
 use Rattle.rules.specs.Act.{Act, done, ask, put, change, look, ◌>>=◌, ◌>>◌, MASKS, FORCED, LINES, SOURCE, TAKEN, IGNORE}
 use Rattle.rules.specs.Scalars.{INT, LEVEL}
 use Rattle.rules.specs.Words.{has, without}
-use Rattle.rules.specs.declared.Heard.{Heard}
+use Rattle.rules.specs.Verdicts.{Heard}
 
 -- ---- DMA-owned lines
 
@@ -103,9 +103,9 @@ heard_from ipl c below = do
 
 -- that level and vector 64 + 64 x controller + source, whose taken count rises
 unfoldable pub hear : Found → Act Heard
-hear (l, i) = cond (eqb l 0) (done Heard.Nothing) (do
+hear (l, i) = cond (eqb l 0) (done None) (do
   change (TAKEN i) (λ n. (n + 1) % 2 ^ 64)
-  done (Heard.Source l (64 + i)))
+  done (Some (record { level = l; vector = 64 + i })))
 
 unfoldable pub acknowledge : ℕ → Act Heard
 acknowledge ipl = do

@@ -100,12 +100,8 @@ pub enum Refusal {
     Count,
 }
 
-// How a call ends.
-#[derive(Clone, Copy)]
-pub enum Verdict {
-    Accepted,
-    Refused(Refusal),
-}
+// How a call ends: accepted, or refused.
+pub type Verdict = Result<(), Refusal>;
 
 // What an act answers: how it ended, the journal's used length, the device.
 #[derive(Clone, Copy)]
@@ -115,19 +111,18 @@ pub struct Acted {
     pub device: Device,
 }
 
-// What a register read answers.
+// What a register read answers: the value, or why it is refused.
+pub type Reading = Result<u32, Refusal>;
+
+// A source that an acknowledge finds, with its level and vector.
 #[derive(Clone, Copy)]
-pub enum Reading {
-    Value(u32),
-    Refused(Refusal),
+pub struct Source {
+    pub level: u8,
+    pub vector: u8,
 }
 
-// What an acknowledge finds: nothing, or a source with its level and vector.
-#[derive(Clone, Copy)]
-pub enum Heard {
-    Nothing,
-    Source(u8, u8),
-}
+// What an acknowledge finds: a source, or nothing.
+pub type Heard = Option<Source>;
 
 // What an acknowledge answers.
 #[derive(Clone, Copy)]

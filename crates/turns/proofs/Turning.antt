@@ -1,5 +1,6 @@
 -- A turn, by cases, as the code makes it; and turns one after another: what is left to do from where the loop stands is the whole from where it
 -- began. Assumes nothing.
+use Rattle.std.specs.Prelude.{Ok, Err}
 use mathlib.Core.Bool.{Bool, true, false, cond}
 use mathlib.Core.List.{List}
 use mathlib.Core.Path.{◌≡◌, refl, sym, ap, ap₂, ◌∙◌}
@@ -25,8 +26,7 @@ use Rattle.rules.specs.declared.Scalars.{Scalars}
 use Rattle.rules.proofs.Steps.{putting, go-done, bind_ok, bind_no, then_ok, change-does}
 use Rattle.act.specs.Worlds.{came_to}
 use Rattle.act.specs.declared.Flow.{Flow}
-use Rattle.act.specs.declared.Step.{Step}
-use Rattle.act.specs.declared.Step.TheVariants.{Going, Refused}
+use Rattle.act.specs.Worlds.{Step}
 use Rattle.channel.specs.Goes.{lined, Goes, Asks, Small, Sums}
 use Rattle.channel.specs.Offers.{offered_in}
 use Rattle.channel.specs.declared.Line.{Line}
@@ -43,12 +43,12 @@ module _ (base : ℕ) (lent : Lent) (now pace : ℕ) (t : Flow) (w w' j j' tb tb
     summed d p = did.does (around d b p)
 
     pub line_broken : (n : Refusal) (c : Flow) → l ≡ Broken n c → (d : Device) (p : List ℕ)
-        → came_to (Refused n c) (around d b p) w' j' tb' m' ≡ go base lent (serve_line now pace) (turning d t w j tb b m p)
+        → came_to (Err (record { why = n; at = c })) (around d b p) w' j' tb' m' ≡ go base lent (serve_line now pace) (turning d t w j tb b m p)
     unfolding serve_line came_to lined
     line_broken n c e d p = sym (bind_no base lent (line_loop line_passes 0) _ (turning d t w j tb b m p) (sym (rw e at (summed d p))))
 
     pub line_served : (n : ℕ) (c : Flow) → l ≡ Sum n c → (r : Flow) (b' : List ℕ) → Paces now pace n c r b b' → (d : Device) (p : List ℕ)
-        → came_to (Going r) (around d b' p) w' j' tb' m' ≡ go base lent (serve_line now pace) (turning d t w j tb b m p)
+        → came_to (Ok r) (around d b' p) w' j' tb' m' ≡ go base lent (serve_line now pace) (turning d t w j tb b m p)
     unfolding serve_line came_to lined
     line_served n c e r b' keeps d p =
         sym (bind_ok base lent (line_loop line_passes 0) _ (turning d t w j tb b m p) (sym (rw e at (summed d p))) ∙ keeps.does base lent d w' j' tb' m' p)
@@ -97,7 +97,7 @@ module _ (base : ℕ) (lent : Lent) (now pace ch : ℕ) (t : Flow) (w j tb b m p
           ≡ go base lent (when o (cond (eqb ch 35) (serve_line now pace) (request_loop request_passes ch))) (at d)
       waits d = served base lent now pace ch (at d) long low ∙ rw (← read, off, ← asked)
 
-      pub serve_none : o ≡ false → Turns (serve now pace ch) base lent t (Going t) w w j j tb tb b b m m p p
+      pub serve_none : o ≡ false → Turns (serve now pace ch) base lent t (Ok t) w w j j tb tb b b m m p p
       unfolding came_to go when
       serve_none e d = sym (waits d ∙ rw e)
 
@@ -125,7 +125,7 @@ module _ (base : ℕ) (lent : Lent) (now pace ch : ℕ) (t : Flow) (w j tb b m p
   where
     pub turn_deferred : now < get_or b ch 0 → (deferred : ℕ) → deferred ≡ gain t.scalars.deferred ch → deferred < 2 ^ 64
         → (s : Scalars) → view_scalars s ≡ set (set (view_scalars t.scalars) 5 kick) 6 deferred
-        → Turns (turn now pace ch) base lent t (Going (record { scalars = s; at = t.at })) w w j j tb tb b b m m p p
+        → Turns (turn now pace ch) base lent t (Ok (record { scalars = s; at = t.at })) w w j j tb tb b b m m p p
     unfolding came_to with_device bits_of
     turn_deferred h deferred e f s v d =
         let u : World = turning d t w j tb b m p in
@@ -168,7 +168,7 @@ module _ (base : ℕ) (lent : Lent) (now pace n : ℕ) (u : World) where
 module _ (base : ℕ) (lent : Lent) (now pace : ℕ) (whole : Device → Out (Unit {0})) (t : Flow) (w j tb b m p : List ℕ) (left : ℕ)
     (rest : (d : Device) → go base lent (turns now pace left) (turning d t w j tb b m p) ≡ whole d)
   where
-    pub turns_out : left ≤ 0 → (d : Device) → came_to (Going t) (around d b p) w j tb m ≡ whole d
+    pub turns_out : left ≤ 0 → (d : Device) → came_to (Ok t) (around d b p) w j tb m ≡ whole d
     unfolding came_to turns go
     turns_out e d = let z : left ≡ 0 = omega arith in rw z at (rest d)
 
@@ -176,7 +176,7 @@ module _ (base : ℕ) (lent : Lent) (now pace : ℕ) (whole : Device → Out (Un
       from : (d : Device) → go base lent (turns now pace (suc (left - 1))) (turning d t w j tb b m p) ≡ whole d
       from d = let q : suc (left - 1) ≡ left = omega arith in rw q (rest d)
 
-      pub turns_stop : t.scalars.kick ≡ 0 → (d : Device) → came_to (Going t) (around d b p) w j tb m ≡ whole d
+      pub turns_stop : t.scalars.kick ≡ 0 → (d : Device) → came_to (Ok t) (around d b p) w j tb m ≡ whole d
       unfolding came_to
       turns_stop e d = sym (turns_none base lent now pace (left - 1) (turning d t w j tb b m p) e) ∙ from d
 
@@ -186,12 +186,12 @@ module _ (base : ℕ) (lent : Lent) (now pace : ℕ) (whole : Device → Out (Un
           ran : (d : Device) → came_to r (around d b' p') w' j' tb' m' ≡ go base lent (turn now pace (lowest t.scalars.kick)) (turning d t w j tb b m p)
           ran d = rw (same, chosen) at (did d)
 
-          pub turns_refused : {n : Refusal} {g : Flow} → r ≡ Refused n g → (d : Device) → came_to r (around d b' p') w' j' tb' m' ≡ whole d
+          pub turns_refused : {n : Refusal} {g : Flow} → r ≡ Err (record { why = n; at = g }) → (d : Device) → came_to r (around d b' p') w' j' tb' m' ≡ whole d
           unfolding came_to
           turns_refused {n} {g} e d =
               rw e (sym (turns-off base lent now pace (left - 1) (turning d t w j tb b m p) h (refusal_number n) (turning d g w' j' tb' b' m' p') (sym (rw e at (ran d)))) ∙ from d)
 
-          pub turns_again : (g : Flow) → r ≡ Going g → (d : Device) → go base lent (turns now pace (left - 1)) (turning d g w' j' tb' b' m' p') ≡ whole d
+          pub turns_again : (g : Flow) → r ≡ Ok g → (d : Device) → go base lent (turns now pace (left - 1)) (turning d g w' j' tb' b' m' p') ≡ whole d
           unfolding came_to
           turns_again g e d =
               sym (turns-on base lent now pace (left - 1) (turning d t w j tb b m p) h (turning d g w' j' tb' b' m' p') (sym (rw e at (ran d)))) ∙ from d

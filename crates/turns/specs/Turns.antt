@@ -7,7 +7,7 @@ use Rattle.rules.specs.With.{with_pending, with_busy}
 use Rattle.rules.specs.State.{Device}
 use Rattle.act.specs.Worlds.{world, came_to}
 use Rattle.act.specs.declared.Flow.{Flow}
-use Rattle.act.specs.declared.Step.{Step}
+use Rattle.act.specs.Worlds.{Step}
 
 -- the device d, but for what a turn holds apart from a pass: busy, pending
 abbrev pub around : Device → List ℕ → List ℕ → Device

@@ -19,7 +19,7 @@ use Rattle.rules.proofs.BytesLaws.{part_back, length_part}
 use Rattle.rules.proofs.Cut.{splice_cut}
 use Rattle.rules.proofs.Steps.{and_then, go_bind, fetch-inside, fetch_outside}
 use Rattle.memory.specs.Places.{place_of}
-use Rattle.memory.specs.declared.Place.{Place}
+use Rattle.std.specs.Prelude.{Option}
 use Rattle.memory.proofs.Laws.{not_there, at_there, at_index}
 use Rattle.unequal_sizes.specs.Stages.{gotten, read_to, Reads}
 use Rattle.unequal_sizes.specs.declared.Read.TheVariants as Read

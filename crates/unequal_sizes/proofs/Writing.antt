@@ -1,4 +1,5 @@
 -- Writes from staging, each law over every unit: a turn of a loop, and its end. Assumes nothing.
+use Rattle.std.specs.Prelude.{Ok}
 use mathlib.Core.List.{List}
 use mathlib.Core.Path.{◌≡◌, sym, ap, ◌∙◌}
 use Prim.Native.Nat.{ℕ, suc, ◌+◌, ◌-◌, ◌*◌, ◌/◌, ◌%◌, ◌^◌, ◌≤◌, ◌<◌}
@@ -13,7 +14,6 @@ use Rattle.rules.specs.Minor.{write_units, write_sizes}
 use Rattle.rules.specs.Words.{wrap32, unit_of, modulo_add}
 use Rattle.rules.specs.State.{Device}
 use Rattle.act.specs.Worlds.{walked}
-use Rattle.act.specs.declared.Walk.TheVariants as Walk
 use Rattle.unequal_sizes.specs.Stages.{wrote}
 use Rattle.unequal_sizes.specs.declared.Wrote.TheVariants as Wrote
 
@@ -27,7 +27,7 @@ writes-on count k u d got o h p q =
     rw (e, p, q, ap (λ (i : ℕ). write_units (count - (k + 1)) i u d got o) (add-one k))
 
 pub writes_end : (base : ℕ) (lent : Lent) (dev : Device) (count k u d : ℕ) (got : List ℕ) (o e : ℕ) (w j : List ℕ) {z : Out (Unit {0})} → count ≤ k
-    → go base lent (write_units (count - k) k u d got o) (world_of dev w j e) ≡ z → walked (Walk.On e) dev w j ≡ z
+    → go base lent (write_units (count - k) k u d got o) (world_of dev w j e) ≡ z → walked (Ok e) dev w j ≡ z
 unfolding write_units walked go
 writes_end base lent dev count k u d got o e w j h rest =
     let z : 0 ≡ count - k = omega arith in

@@ -1,5 +1,6 @@
 -- The pending call of document 02's [1]: 14 at both sides of its bound, its place among the refusals, what it leaves; a count of 0; and two frames
 -- reported while one waits. By computation. Assumes nothing.
+use Rattle.std.specs.Prelude.{None}
 use mathlib.Core.Bool.{false}
 use mathlib.Core.List.{List, [], ◌∷◌, ◌++◌}
 use mathlib.Core.Path.{◌≡◌, refl, sym, ap, ◌∙◌}
@@ -13,7 +14,6 @@ use Rattle.rules.specs.Carry.{end_line}
 use Rattle.rules.specs.Fields.{with_field}
 use Rattle.rules.specs.Scalars.{KICK}
 use Rattle.rules.specs.State.{Device}
-use Rattle.rules.specs.declared.Heard.TheVariants as Heard
 use Rattle.walls.specs.Wrong.{Given, StoresOver, TakesAnySum, TakesNoSum, gives, counts, runs}
 use Rattle.walls.specs.Examples.{moving, requesting, lent, computed}
 use Rattle.walls.proofs.Leaving.{short}
@@ -52,12 +52,12 @@ in_order = refl
 
 -- 14 leaves all as it was, staging and the journal's unused room too
 pub after_14 : counts (5, 2) (short 31 (counting (2 ^ 32 - 2)) (7 ∷ 8 ∷ []) (5 ∷ 6 ∷ []))
-    ≡ told 14 Heard.Nothing (counting (2 ^ 32 - 2)) (7 ∷ 8 ∷ []) (5 ∷ 6 ∷ []) (replicate 16 0xAA ++ replicate 31 0xEE) 16
+    ≡ told 14 None (counting (2 ^ 32 - 2)) (7 ∷ 8 ∷ []) (5 ∷ 6 ∷ []) (replicate 16 0xAA ++ replicate 31 0xEE) 16
 unfolding computed short counting
 after_14 = refl
 
 -- a count of 0 changes nothing, and writes its group: the end record alone
-pub nothing_added : counts (5, 0) (short 16 (counting 3) [] []) ≡ told 0 Heard.Nothing (counting 3) [] [] (replicate 16 0xAA ++ end_line 0) 32
+pub nothing_added : counts (5, 0) (short 16 (counting 3) [] []) ≡ told 0 None (counting 3) [] [] (replicate 16 0xAA ++ end_line 0) 32
 unfolding computed short counting
 nothing_added = refl
 

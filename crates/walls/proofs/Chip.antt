@@ -1,5 +1,6 @@
 -- Service as the chip does it (document 02, [10]): turns, KICK, channel 35, priorities and their records; and what is shut out. By computation.
 -- Assumes nothing.
+use Rattle.std.specs.Prelude.{None}
 use mathlib.Core.Bool.{true, false}
 use mathlib.Core.List.{List, [], ◌∷◌, ◌++◌}
 use mathlib.Core.Path.{◌≡◌, refl, sym, ap, ◌∙◌}
@@ -9,7 +10,6 @@ use borrow.Author.Tests.{eqb-false}
 use lib.Dec.{lit<}
 use lib.ListN.{get_or, replicate}
 use Rattle.rules.specs.State.{Device}
-use Rattle.rules.specs.declared.Heard.TheVariants as Heard
 use Rattle.rules.specs.Act.{BUSY, MAJORS, PENDING, PRIORITY}
 use Rattle.rules.specs.Scalars.{DEADLINE, DEFERRED, KICK}
 use Rattle.rules.specs.Calls.{fresh, Told, told, told_read, after_read, number_told, device_told, window_told}
@@ -230,7 +230,7 @@ unfolding computed
 bytes_only = refl
 
 -- in the old mode the write is accepted and changes nothing: its group is the end record alone; and a read is refused with 3
-pub old_write : wrote (fresh false false) ≡ told 0 Heard.Nothing (fresh false false) (7 ∷ []) [] (end_line 0 ++ replicate 496 0xEE) 16
+pub old_write : wrote (fresh false false) ≡ told 0 None (fresh false false) (7 ∷ []) [] (end_line 0 ++ replicate 496 0xEE) 16
 unfolding computed wrote
 old_write = refl
 
@@ -242,12 +242,12 @@ old_read = refl
 
 -- the write's group: field 773, which was 5, and the end
 pub write_group : wrote (fresh false true)
-    ≡ told 0 Heard.Nothing (with_field (PRIORITY 5) 7 (fresh false true)) (7 ∷ []) [] (line 2 8 773 5 ++ end_line 1 ++ replicate 480 0xEE) 32
+    ≡ told 0 None (with_field (PRIORITY 5) 7 (fresh false true)) (7 ∷ []) [] (line 2 8 773 5 ++ end_line 1 ++ replicate 480 0xEE) 32
 unfolding computed wrote
 write_group = refl
 
 -- taken back
-pub write_back : takes_back tt (next (wrote (fresh false true))) ≡ told 0 Heard.Nothing (fresh false true) (7 ∷ []) [] (replicate 32 0 ++ replicate 480 0xEE) 0
+pub write_back : takes_back tt (next (wrote (fresh false true))) ≡ told 0 None (fresh false true) (7 ∷ []) [] (replicate 32 0 ++ replicate 480 0xEE) 0
 unfolding computed wrote next
 write_back = refl
 
@@ -255,15 +255,15 @@ write_back = refl
 unfoldable pub taking : Device → List ℕ → Told
 taking d record₁ = takes_back tt (record { base = 0x80000000; device = d; window = 7 ∷ []; staging = []; journal = record₁ ++ end_line 1; used = 32 })
 
-pub six_bits_back : taking (fresh false true) (line 2 8 773 63) ≡ told 0 Heard.Nothing (with_field (PRIORITY 5) 63 (fresh false true)) (7 ∷ []) [] (replicate 32 0) 0
+pub six_bits_back : taking (fresh false true) (line 2 8 773 63) ≡ told 0 None (with_field (PRIORITY 5) 63 (fresh false true)) (7 ∷ []) [] (replicate 32 0) 0
 unfolding computed taking
 six_bits_back = refl
 
-pub seven_bits_damaged : taking (fresh false true) (line 2 8 773 64) ≡ told 13 Heard.Nothing (fresh false true) (7 ∷ []) [] (line 2 8 773 64 ++ end_line 1) 32
+pub seven_bits_damaged : taking (fresh false true) (line 2 8 773 64) ≡ told 13 None (fresh false true) (7 ∷ []) [] (line 2 8 773 64 ++ end_line 1) 32
 unfolding computed taking
 seven_bits_damaged = refl
 
-pub old_damaged : taking (fresh false false) (line 2 8 773 0) ≡ told 13 Heard.Nothing (fresh false false) (7 ∷ []) [] (line 2 8 773 0 ++ end_line 1) 32
+pub old_damaged : taking (fresh false false) (line 2 8 773 0) ≡ told 13 None (fresh false false) (7 ∷ []) [] (line 2 8 773 0 ++ end_line 1) 32
 unfolding computed taking
 old_damaged = refl
 

@@ -1,4 +1,5 @@
 -- A take-back undoes more than one record, and all of a group or nothing. By computation. Assumes nothing.
+use Rattle.std.specs.Prelude.{None}
 use mathlib.Core.Bool.{false}
 use mathlib.Core.List.{List, [], ◌∷◌, ◌++◌}
 use mathlib.Core.Logic.{◌⊎◌, inl, inr}
@@ -6,7 +7,6 @@ use mathlib.Core.Path.{◌≡◌, refl, sym, ap, ◌∙◌}
 use Prim.Native.Nat.{ℕ}
 use borrow.Author.Tests.{eqb-false}
 use lib.ListN.{replicate, get_or, length}
-use Rattle.rules.specs.declared.Heard.TheVariants as Heard
 use Rattle.rules.specs.Calls.{fresh, Told, told, device_told, window_told}
 use Rattle.rules.specs.Carry.{line, end_line}
 use Rattle.rules.specs.Fields.{holds}
@@ -31,7 +31,7 @@ unfoldable pub group : List ℕ → Given
 group records = record { base = 0x80000000; device = fresh false false; window = 7 ∷ 8 ∷ []; staging = []; journal = records; used = length records }
 
 unfoldable pub refused_with : ℕ → List ℕ → Told
-refused_with n records = told n Heard.Nothing (fresh false false) (7 ∷ 8 ∷ []) [] records (length records)
+refused_with n records = told n None (fresh false false) (7 ∷ 8 ∷ []) [] records (length records)
 
 -- a value too wide for its field, or for its width, in its last byte of those that must be 0
 pub field_too_wide : takes_back tt (group (line 2 8 8 0x100 ++ end_line 1)) ≡ refused_with 13 (line 2 8 8 0x100 ++ end_line 1)
@@ -61,6 +61,6 @@ unfolding computed group refused_with
 none_stands = refl
 
 -- two stores to one place: undone last to first, what stood there first stands there again
-pub last_to_first : takes_back tt (group (line 0 1 0x80000001 5 ++ line 0 1 0x80000001 6 ++ end_line 2)) ≡ told 0 Heard.Nothing (fresh false false) (7 ∷ 5 ∷ []) [] (replicate 48 0) 0
+pub last_to_first : takes_back tt (group (line 0 1 0x80000001 5 ++ line 0 1 0x80000001 6 ++ end_line 2)) ≡ told 0 None (fresh false false) (7 ∷ 5 ∷ []) [] (replicate 48 0) 0
 unfolding computed group
 last_to_first = refl

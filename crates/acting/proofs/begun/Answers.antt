@@ -1,5 +1,5 @@
 -- `acting::begun` meets its contract. Assumes nothing.
 use Rattle.acting.proofs.begun.Goals as goal
 
-pub returns-in-On : goal.returns-in-On
-returns-in-On c = rw c.in-On.is
+pub returns-in-Ok : goal.returns-in-Ok
+returns-in-Ok c = rw c.in-Ok.is

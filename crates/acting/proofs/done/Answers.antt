@@ -2,10 +2,10 @@
 use Rattle.acting.proofs.done.Goals as goal
 
 pub returns-in_default : goal.returns-in_default
-returns-in_default c = rw (c.in-On.is, c.in_default.is) c.refused-in_default.ensures
+returns-in_default c = rw (c.in-Ok.is, c.in_default.is) c.refused-in_default.ensures
 
-pub returns-in-Off : goal.returns-in-Off
-returns-in-Off c = rw c.in-Off.is c.refused.ensures
+pub returns-in-Err : goal.returns-in-Err
+returns-in-Err c = rw c.in-Err.is c.refused.ensures
 
-pub returns-in-At : goal.returns-in-At
-returns-in-At c = rw (c.in-On.is, c.in-At.is)
+pub returns-in-Some : goal.returns-in-Some
+returns-in-Some c = rw (c.in-Ok.is, c.in-Some.is)

@@ -2,9 +2,9 @@
 use Rattle.answers.specs.Answers.{captured_by}
 use Rattle.answers.proofs.captured_answer.Goals as goal
 
-pub returns-in-Refused : goal.returns-in-Refused
+pub returns-in-Err : goal.returns-in-Err
 unfolding captured_by
-returns-in-Refused c = rw c.in-Refused.is c.packed.ensures
+returns-in-Err c = rw c.in-Err.is c.packed.ensures
 
 pub returns-in-Found : goal.returns-in-Found
 unfolding captured_by

@@ -1,8 +1,8 @@
 -- `channel::at_sum` meets its contract. Assumes nothing.
 use Rattle.channel.proofs.at_sum.Goals as goal
 
-pub returns-in-Going : goal.returns-in-Going
-returns-in-Going c = rw c.in-Going.is
+pub returns-in-Ok : goal.returns-in-Ok
+returns-in-Ok c = rw c.in-Ok.is
 
-pub returns-in-Refused : goal.returns-in-Refused
-returns-in-Refused c = rw c.in-Refused.is
+pub returns-in-Err : goal.returns-in-Err
+returns-in-Err c = rw c.in-Err.is

@@ -46,7 +46,7 @@ returns-then-has_bit c =
     let l = c.loop-left in
     record {
       small = search (rules, c.nbytes_of-bytes.ensures.1);
-      does = line-done a.base _ _ l.f _ _ _ _ l.sum _ l.invariant.4 c.loop-left-test.true _ (ap lending l.invariant.1) _ _ _ _ _ c.dma_minor-r.ensures _ c.nbytes_of-bytes.ensures.0 c.nbytes_of-bytes.ensures.2 c.csr_of-csr.ensures.1 _ c.in-Ran.is _ c.in-Going.is _ c.csr_of-csr.ensures.0 (sym c.has_bit.ensures ∙ c.if-has_bit.true);
+      does = line-done a.base _ _ l.f _ _ _ _ l.sum _ l.invariant.4 c.loop-left-test.true _ (ap lending l.invariant.1) _ _ _ _ _ c.dma_minor-r.ensures _ c.nbytes_of-bytes.ensures.0 c.nbytes_of-bytes.ensures.2 c.csr_of-csr.ensures.1 _ c.in-Ran.is _ c.in-Ok.is _ c.csr_of-csr.ensures.0 (sym c.has_bit.ensures ∙ c.if-has_bit.true);
     }
 
 pub shape_of-window-then-sum-gt1048576 : goal.shape_of-window-then-sum-gt1048576
@@ -64,7 +64,7 @@ returns-then-sum-gt1048576 c =
     let l = c.loop-left in
     record {
       small = search (rules, c.nbytes_of-bytes.ensures.1);
-      does = line-over a.base _ _ l.f _ _ _ _ l.sum _ l.invariant.4 c.loop-left-test.true _ (ap lending l.invariant.1) _ _ _ _ _ c.dma_minor-r.ensures _ c.nbytes_of-bytes.ensures.0 c.nbytes_of-bytes.ensures.2 c.csr_of-csr.ensures.1 _ c.in-Ran.is _ c.in-Going.is _ c.csr_of-csr.ensures.0 (sym c.has_bit.ensures ∙ c.if-has_bit.false) c.if-sum-gt1048576.true;
+      does = line-over a.base _ _ l.f _ _ _ _ l.sum _ l.invariant.4 c.loop-left-test.true _ (ap lending l.invariant.1) _ _ _ _ _ c.dma_minor-r.ensures _ c.nbytes_of-bytes.ensures.0 c.nbytes_of-bytes.ensures.2 c.csr_of-csr.ensures.1 _ c.in-Ran.is _ c.in-Ok.is _ c.csr_of-csr.ensures.0 (sym c.has_bit.ensures ∙ c.if-has_bit.false) c.if-sum-gt1048576.true;
     }
 
 pub overflow_sub-left : goal.overflow_sub-left
@@ -77,7 +77,7 @@ pub loop-left-preserved : goal.loop-left-preserved
 loop-left-preserved c =
     let a = c.args in
     let l = c.loop-left in
-    (search rules, search rules, search rules, search rules, line_again a.base _ _ l.f _ _ _ _ l.sum _ l.invariant.4 c.loop-left-test.true _ (ap lending l.invariant.1) _ _ _ _ _ c.dma_minor-r.ensures _ c.nbytes_of-bytes.ensures.0 c.nbytes_of-bytes.ensures.2 c.csr_of-csr.ensures.1 _ c.in-Ran.is _ c.in-Going.is _ c.csr_of-csr.ensures.0 (sym c.has_bit.ensures ∙ c.if-has_bit.false) c.if-sum-gt1048576.false)
+    (search rules, search rules, search rules, search rules, line_again a.base _ _ l.f _ _ _ _ l.sum _ l.invariant.4 c.loop-left-test.true _ (ap lending l.invariant.1) _ _ _ _ _ c.dma_minor-r.ensures _ c.nbytes_of-bytes.ensures.0 c.nbytes_of-bytes.ensures.2 c.csr_of-csr.ensures.1 _ c.in-Ran.is _ c.in-Ok.is _ c.csr_of-csr.ensures.0 (sym c.has_bit.ensures ∙ c.if-has_bit.false) c.if-sum-gt1048576.false)
 
 pub returns : goal.returns
 returns c =

@@ -38,7 +38,7 @@ pub loop-left-preserved : goal.loop-left-preserved
 loop-left-preserved c =
     let a = c.args in
     let l = c.loop-left in
-    (search rules, search rules, search rules, request_again a.base _ a.ch _ l.f _ _ _ _ _ _ l.invariant.3 c.loop-left-test.true c.offered.ensures c.if-not-offered.false _ c.spend.ensures.0 c.spend.ensures.1 _ (ap lending l.invariant.1) _ _ _ _ _ c.dma_minor.ensures _ c.in-Ran.is _ c.in-Going.is)
+    (search rules, search rules, search rules, request_again a.base _ a.ch _ l.f _ _ _ _ _ _ l.invariant.3 c.loop-left-test.true c.offered.ensures c.if-not-offered.false _ c.spend.ensures.0 c.spend.ensures.1 _ (ap lending l.invariant.1) _ _ _ _ _ c.dma_minor.ensures _ c.in-Ran.is _ c.in-Ok.is)
 
 pub returns : goal.returns
 returns c =

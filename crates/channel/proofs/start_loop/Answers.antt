@@ -26,13 +26,13 @@ pub returns-then-majors-ch : goal.returns-then-majors-ch
 returns-then-majors-ch c =
     let a = c.args in
     let l = c.loop-left in
-    start_stop a.base _ a.ch a.before _ l.f _ _ _ _ _ l.invariant.3 c.loop-left-test.true _ (ap lending l.invariant.1) _ _ _ _ _ c.dma_minor.ensures _ c.in-Ran.is _ c.in-Going.is c.if-majors-ch.true
+    start_stop a.base _ a.ch a.before _ l.f _ _ _ _ _ l.invariant.3 c.loop-left-test.true _ (ap lending l.invariant.1) _ _ _ _ _ c.dma_minor.ensures _ c.in-Ran.is _ c.in-Ok.is c.if-majors-ch.true
 
 pub loop-left-preserved : goal.loop-left-preserved
 loop-left-preserved c =
     let a = c.args in
     let l = c.loop-left in
-    (search rules, search rules, search rules, start_again a.base _ a.ch a.before _ l.f _ _ _ _ _ l.invariant.3 c.loop-left-test.true _ (ap lending l.invariant.1) _ _ _ _ _ c.dma_minor.ensures _ c.in-Ran.is _ c.in-Going.is c.if-majors-ch.false)
+    (search rules, search rules, search rules, start_again a.base _ a.ch a.before _ l.f _ _ _ _ _ l.invariant.3 c.loop-left-test.true _ (ap lending l.invariant.1) _ _ _ _ _ c.dma_minor.ensures _ c.in-Ran.is _ c.in-Ok.is c.if-majors-ch.false)
 
 pub returns : goal.returns
 returns c =

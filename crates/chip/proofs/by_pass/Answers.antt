@@ -5,8 +5,8 @@ use Rattle.chip.proofs.by_pass.Goals as goal
 pub returns-in_default : goal.returns-in_default
 returns-in_default c = pass_not c.args.base _ c.args.ch c.args.t _ _ _ _ _ _ _ _ _ c.dma_minor.ensures c.in_default.is
 
-pub returns-in-Going : goal.returns-in-Going
-returns-in-Going c = pass_went c.args.base _ c.args.ch c.args.t _ _ _ _ _ _ _ _ _ c.dma_minor.ensures _ _ c.in-Ran.is c.in-Going.is
+pub returns-in-Ok : goal.returns-in-Ok
+returns-in-Ok c = pass_went c.args.base _ c.args.ch c.args.t _ _ _ _ _ _ _ _ _ c.dma_minor.ensures _ _ c.in-Ran.is c.in-Ok.is
 
-pub returns-in-Refused : goal.returns-in-Refused
-returns-in-Refused c = pass-off c.args.base _ c.args.ch c.args.t _ _ _ _ _ _ _ _ _ c.dma_minor.ensures _ _ _ c.in-Ran.is c.in-Refused.is
+pub returns-in-Err : goal.returns-in-Err
+returns-in-Err c = pass-off c.args.base _ c.args.ch c.args.t _ _ _ _ _ _ _ _ _ c.dma_minor.ensures _ _ _ c.in-Ran.is c.in-Err.is

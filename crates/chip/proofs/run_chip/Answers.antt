@@ -43,7 +43,7 @@ loop-left-preserved c =
       search rules,
       search rules,
       λ d proper order.
-          chips_again (l.invariant.3 d proper order) c.loop-left-test.true _ c.ready-m.ensures _ c.choose-ch.ensures.0 c.choose-ch.ensures.1 _ (ap lending l.invariant.1) _ _ _ _ _ _ _ c.chip_turn-r.ensures _ c.ended-e.ensures _ c.in-Going.is _ c.answered.ensures _ _ _ c.minor_link-minor.ensures.0 c.major_link-major.ensures.0 c.renewed-k.ensures,
+          chips_again (l.invariant.3 d proper order) c.loop-left-test.true _ c.ready-m.ensures _ c.choose-ch.ensures.0 c.choose-ch.ensures.1 _ (ap lending l.invariant.1) _ _ _ _ _ _ _ c.chip_turn-r.ensures _ c.ended-e.ensures _ c.in-Ok.is _ c.answered.ensures _ _ _ c.minor_link-minor.ensures.0 c.major_link-major.ensures.0 c.renewed-k.ensures,
     )
 
 pub returns : goal.returns

@@ -12,12 +12,12 @@ loop-i-init c = (omega arith, turns_start _ _ _ _, refl)
 
 pub returns-in_default-note_byte_block : goal.returns-in_default-note_byte_block
 returns-in_default-note_byte_block c =
-    told_at _ _ _ c.in-At.is
+    told_at _ _ _ c.in-Some.is
     (block_full _ _ _ _ _ _ (omega arith) (omega arith) (omega arith) c.note_byte_block.ensures c.in_default-note_byte_block.is ∙ c.loop-i.invariant.1)
 
 pub loop-i-preserved : goal.loop-i-preserved
 loop-i-preserved c =
-    (omega arith, block _ _ _ _ _ _ (omega arith) (omega arith) (omega arith) c.note_byte_block.ensures c.in-At-note_byte_block.is ∙ c.loop-i.invariant.1, omega (arith, c.note_byte_block.auto.journal))
+    (omega arith, block _ _ _ _ _ _ (omega arith) (omega arith) (omega arith) c.note_byte_block.ensures c.in-Some-note_byte_block.is ∙ c.loop-i.invariant.1, omega (arith, c.note_byte_block.auto.journal))
 
 pub returns : goal.returns
-returns c = told_at _ _ _ c.in-At.is (to_end _ _ _ _ _ c.note_each_byte.ensures ∙ c.loop-i.invariant.1)
+returns c = told_at _ _ _ c.in-Some.is (to_end _ _ _ _ _ c.note_each_byte.ensures ∙ c.loop-i.invariant.1)

@@ -13,7 +13,7 @@ returns-in_default c =
 
 pub loop-i-preserved : goal.loop-i-preserved
 loop-i-preserved c =
-    (omega arith, turn _ _ _ _ _ (omega arith) (omega arith) c.wide8.ensures c.wide8-in-loop-i.ensures c.note_one.ensures c.in-At.is ∙ c.loop-i.invariant.1, omega (arith, c.note_one.auto.journal))
+    (omega arith, turn _ _ _ _ _ (omega arith) (omega arith) c.wide8.ensures c.wide8-in-loop-i.ensures c.note_one.ensures c.in-Some.is ∙ c.loop-i.invariant.1, omega (arith, c.note_one.auto.journal))
 
 pub returns : goal.returns
 returns c = turns-done _ _ _ _ _ (omega arith) ∙ c.loop-i.invariant.1

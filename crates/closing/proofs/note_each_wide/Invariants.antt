@@ -1,16 +1,16 @@
 -- `closing::note_each_wide` meets its contract: what is left to note from here is what was to note from the start. Assumes nothing.
+use Rattle.std.specs.Prelude.{Some}
 use mathlib.Core.Path.{◌≡◌}
 use Prim.Native.Nat.{◌+◌, ◌-◌, ◌≤◌}
 use lib.ListN.{length, drop}
 use Rattle.rules.specs.Carry.{changed}
-use Rattle.closing.specs.declared.Noted.TheVariants.{At}
 use Rattle.closing.specs.Closes.{noting, add_all}
 use Rattle.closing.proofs.note_each_wide.Given as goal
 
 abbrev pub invariant-loop-i : goal.invariant-loop-i
 invariant-loop-i l =
     (l.i ≤ length l.before)
-    × (add_all (changed (l.first + l.i) (drop l.i l.before) (drop l.i l.after)) (noting (At l.end) l.journal) ≡ add_all (changed l.first l.before l.after) (noting (At l.at) l.initial.journal))
+    × (add_all (changed (l.first + l.i) (drop l.i l.before) (drop l.i l.after)) (noting (Some l.end) l.journal) ≡ add_all (changed l.first l.before l.after) (noting (Some l.at) l.initial.journal))
     × (length l.journal ≡ length l.initial.journal)
 
 abbrev pub decreases-loop-i : goal.decreases-loop-i

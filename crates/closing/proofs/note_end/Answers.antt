@@ -7,4 +7,4 @@ pub returns-in_default : goal.returns-in_default
 returns-in_default c = end_full _ _ c.in_default.is
 
 pub returns : goal.returns
-returns c = end_at_lem _ _ _ _ c.in-At.is (omega (arith, c.span-records.ensures)) c.note.ensures
+returns c = end_at_lem _ _ _ _ c.in-Some.is (omega (arith, c.span-records.ensures)) c.note.ensures

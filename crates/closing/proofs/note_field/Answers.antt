@@ -6,4 +6,4 @@ pub returns-in_default : goal.returns-in_default
 returns-in_default c = stays_full _ _ c.in_default.is
 
 pub returns : goal.returns
-returns c = told_at _ _ _ c.in-At.is c.note_one.ensures
+returns c = told_at _ _ _ c.in-Some.is c.note_one.ensures

@@ -17,5 +17,5 @@ pub returns-in-28 : goal.returns-in-28
 unfolding pick dma_arms or_nothing
 returns-in-28 c base lent d w m e = rw (write_word _ _ c.requires, c.in-28.is) (c.commands-in-28.ensures base lent d w m e)
 
-pub returns-in-Going : goal.returns-in-Going
-returns-in-Going c base lent d w m e = rw (write_word _ _ c.requires) (numbers_done base lent _ d _ _ w _ _ m c.in-Going.is e (c.masks_written-scalars.ensures _))
+pub returns-in-Ok : goal.returns-in-Ok
+returns-in-Ok c base lent d w m e = rw (write_word _ _ c.requires) (numbers_done base lent _ d _ _ w _ _ m c.in-Ok.is e (c.masks_written-scalars.ensures _))

@@ -15,5 +15,5 @@ pub returns-in-7 : goal.returns-in-7
 unfolding command
 returns-in-7 c base lent d w m e = rw c.in-7.is (c.clear_dones.ensures base lent d w m)
 
-pub returns-in-Going : goal.returns-in-Going
-returns-in-Going c base lent d w m e = numbers_done base lent _ d _ _ w _ _ m c.in-Going.is e c.scalar_command-scalars.ensures
+pub returns-in-Ok : goal.returns-in-Ok
+returns-in-Ok c base lent d w m e = numbers_done base lent _ d _ _ w _ _ m c.in-Ok.is e c.scalar_command-scalars.ensures

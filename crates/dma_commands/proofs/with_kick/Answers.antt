@@ -9,10 +9,10 @@ pub returns-in_default : goal.returns-in_default
 returns-in_default c base lent d w j t m = stays base lent _ d w j t m c.in_default.is
 
 pub returns-then-not-on : goal.returns-then-not-on
-returns-then-not-on c base lent d w j t m = skips base lent d _ w j t m c.in-Going.is _ _ c.if-not-on.true
+returns-then-not-on c base lent d w j t m = skips base lent d _ w j t m c.in-Ok.is _ _ c.if-not-on.true
 
 pub returns : goal.returns
 returns c base lent d w j t m =
     let mask = c.args.m in
     taken base lent _ _ _ c.if-not-on.false
-    (scalar_changed base lent d _ w j t m c.in-Going.is (λ k. bit_or k mask) 5 _ refl refl (or_lt 64 c.in-Going.c.scalars.kick mask (search rules) (search rules)))
+    (scalar_changed base lent d _ w j t m c.in-Ok.is (λ k. bit_or k mask) 5 _ refl refl (or_lt 64 c.in-Ok.c.scalars.kick mask (search rules) (search rules)))

@@ -19,4 +19,4 @@ pub returns : goal.returns
 returns c x p =
     let a = c.args in
     let q = c.requires in
-    carried_made a.again a.chip _ a.time a.pace a.base a.k x _ _ _ _ _ _ _ a.used c.beginning-t.result _ c.beginning-t.ensures _ _ _ _ _ _ _ _ c.run_all-s.ensures p (λ i. search (rules, c.type_inv.window i)) q.3 q.2 _ c.settle.ensures c.end_turns-r.result _ c.end_turns-r.ensures q.4 q.5 q.6 c.in-Accepted.is
+    carried_made a.again a.chip _ a.time a.pace a.base a.k x _ _ _ _ _ _ _ a.used c.beginning-t.result _ c.beginning-t.ensures _ _ _ _ _ _ _ _ c.run_all-s.ensures p (λ i. search (rules, c.type_inv.window i)) q.3 q.2 _ c.settle.ensures c.end_turns-r.result _ c.end_turns-r.ensures q.4 q.5 q.6 c.in-Ok.is

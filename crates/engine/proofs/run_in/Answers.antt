@@ -1,10 +1,10 @@
 -- `engine::run_in` meets its contract. Assumes nothing.
+use Rattle.std.specs.Prelude.{None}
 use Rattle.engine.specs.Runs.{call_of}
 use Rattle.engine.proofs.Calling.{asked_wrong, refused_told, asked_told}
 use Rattle.engine.proofs.Starts.{right}
 use Rattle.acting.proofs.Laws.{stood_new, stood_old}
 use Rattle.act.specs.Parts.{ordered, working}
-use Rattle.rules.specs.declared.Heard.TheVariants as Heard
 use Rattle.rules.specs.Calls.{verdict_number}
 use mathlib.Core.Path.{refl, sym, ap, ◌∙◌}
 use Rattle.engine.proofs.run_in.Goals as goal
@@ -17,17 +17,17 @@ returns-in_default c x p =
 pub carried-r-requires : goal.carried-r-requires
 carried-r-requires c =
     let a = c.args in
-    let r = right a.base _ _ a.used a.time a.pace (sym c.tested-v.ensures ∙ ap verdict_number c.in-Accepted.is) in
+    let r = right a.base _ _ a.used a.time a.pace (sym c.tested-v.ensures ∙ ap verdict_number c.in-Ok.is) in
     (r.early, r.slow, r.within, r.below, refl, refl, refl)
 
 pub returns-in_default-ended : goal.returns-in_default-ended
 returns-in_default-ended c x p =
     let a = c.args in
-    asked_told a.base _ _ _ _ a.used a.time a.pace _ a.again (sym c.tested-v.ensures ∙ ap verdict_number c.in-Accepted.is)
-    (stood_old c.carried-r.result (working (ordered x _ a.chip) _ _ _ _) (working (ordered x _ a.chip) _ _ _ _) Heard.Nothing _ _ _ c.in_default-ended.is (c.carried-r.ensures x p))
+    asked_told a.base _ _ _ _ a.used a.time a.pace _ a.again (sym c.tested-v.ensures ∙ ap verdict_number c.in-Ok.is)
+    (stood_old c.carried-r.result (working (ordered x _ a.chip) _ _ _ _) (working (ordered x _ a.chip) _ _ _ _) None _ _ _ c.in_default-ended.is (c.carried-r.ensures x p))
 
 pub returns : goal.returns
 returns c x p =
     let a = c.args in
-    asked_told a.base _ _ _ _ a.used a.time a.pace _ a.again (sym c.tested-v.ensures ∙ ap verdict_number c.in-Accepted.is)
-    (stood_new c.carried-r.result (working (ordered x _ a.chip) _ _ _ _) (working (ordered x _ a.chip) _ _ _ _) Heard.Nothing _ _ _ c.in-Accepted-ended.is (c.carried-r.ensures x p))
+    asked_told a.base _ _ _ _ a.used a.time a.pace _ a.again (sym c.tested-v.ensures ∙ ap verdict_number c.in-Ok.is)
+    (stood_new c.carried-r.result (working (ordered x _ a.chip) _ _ _ _) (working (ordered x _ a.chip) _ _ _ _) None _ _ _ c.in-Ok-ended.is (c.carried-r.ensures x p))

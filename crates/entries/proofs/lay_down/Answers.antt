@@ -6,4 +6,4 @@ pub returns-in_default : goal.returns-in_default
 returns-in_default c = left_so _ _ c.in_default.is
 
 pub returns : goal.returns
-returns c = laid_down _ _ c.in-Accepted.is c.put_device.ensures
+returns c = laid_down _ _ c.in-Ok.is c.put_device.ensures

@@ -9,12 +9,12 @@ use Rattle.equal_sizes.proofs.move_bursts.Goals as goal
 pub loop-left-init : goal.loop-left-init
 loop-left-init c = (refl, refl, λ lent d. refl)
 
-pub returns-in-Off : goal.returns-in-Off
+pub returns-in-Err : goal.returns-in-Err
 unfolding moved
-returns-in-Off c =
+returns-in-Err c =
     let a = c.args in
     let turn = bursts_on c.loop-left.left a.step.soff a.step.smod a.step.doff a.step.dmod a.size c.loop-left.s c.loop-left.d c.loop-left-test.true refl refl c.requires.0 in
-    turn-off a.base _ a.at _ _ _ _ turn _ _ c.loop-left.end c.loop-left.invariant.2 _ _ c.move_units4.ensures c.in-Off.is
+    turn-off a.base _ a.at _ _ _ _ turn _ _ c.loop-left.end c.loop-left.invariant.2 _ _ c.move_units4.ensures c.in-Err.is
 
 pub loop-left-preserved : goal.loop-left-preserved
 loop-left-preserved c =
@@ -22,7 +22,7 @@ loop-left-preserved c =
     let turn = bursts_on c.loop-left.left a.step.soff a.step.smod a.step.doff a.step.dmod a.size c.loop-left.s c.loop-left.d c.loop-left-test.true c.modulo_add-s.ensures c.modulo_add-d.ensures c.requires.0 in (
       omega arith,
       omega arith,
-      turn_on a.base _ a.at _ _ _ _ turn _ _ c.loop-left.end c.loop-left.invariant.2 _ _ c.move_units4.ensures c.in-On.is,
+      turn_on a.base _ a.at _ _ _ _ turn _ _ c.loop-left.end c.loop-left.invariant.2 _ _ c.move_units4.ensures c.in-Ok.is,
     )
 
 pub returns : goal.returns

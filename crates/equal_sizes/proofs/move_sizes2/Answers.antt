@@ -10,12 +10,12 @@ use Rattle.equal_sizes.proofs.move_sizes2.Goals as goal
 pub loop-left-init : goal.loop-left-init
 loop-left-init c = (search rules, search rules, refl, refl, λ lent d. refl)
 
-pub returns-in-Off : goal.returns-in-Off
+pub returns-in-Err : goal.returns-in-Err
 unfolding moved
-returns-in-Off c =
+returns-in-Err c =
     let a = c.args in
     let turn = single_on c.loop-left.left a.step.soff a.step.smod a.step.doff a.step.dmod 2 c.loop-left.s c.loop-left.d c.loop-left-test.true refl refl (lit< tt) (lit≤ tt) c.loop-left.invariant.0 c.loop-left.invariant.1 in
-    turn-off a.base _ a.at _ _ (move_unit 2 c.loop-left.s c.loop-left.d) _ turn _ _ c.loop-left.end c.loop-left.invariant.4 _ _ c.move_unit.ensures c.in-Off.is
+    turn-off a.base _ a.at _ _ (move_unit 2 c.loop-left.s c.loop-left.d) _ turn _ _ c.loop-left.end c.loop-left.invariant.4 _ _ c.move_unit.ensures c.in-Err.is
 
 pub loop-left-preserved : goal.loop-left-preserved
 loop-left-preserved c =
@@ -25,7 +25,7 @@ loop-left-preserved c =
       search rules,
       omega arith,
       omega arith,
-      turn_on a.base _ a.at _ _ (move_unit 2 c.loop-left.s c.loop-left.d) _ turn _ _ c.loop-left.end c.loop-left.invariant.4 _ _ c.move_unit.ensures c.in-On.is,
+      turn_on a.base _ a.at _ _ (move_unit 2 c.loop-left.s c.loop-left.d) _ turn _ _ c.loop-left.end c.loop-left.invariant.4 _ _ c.move_unit.ensures c.in-Ok.is,
     )
 
 pub returns : goal.returns

@@ -11,12 +11,12 @@ use Rattle.equal_sizes.proofs.move_units4.Goals as goal
 pub loop-k-init : goal.loop-k-init
 loop-k-init c = (omega arith, refl, refl, λ lent d. rw sub-zero)
 
-pub returns-in-Off : goal.returns-in-Off
+pub returns-in-Err : goal.returns-in-Err
 unfolding walked
-returns-in-Off c =
+returns-in-Err c =
     let a = c.args in
     let turn = units-on a.count c.loop-k.k 4 a.from a.to c.loop-k-test.true c.unit_at-a.ensures c.unit_at-b.ensures in
-    turn-off a.base _ a.at _ _ (move_unit 4 c.unit_at-a.result c.unit_at-b.result) _ turn _ _ c.loop-k.end c.loop-k.invariant.3 _ _ c.move_unit.ensures c.in-Off.is
+    turn-off a.base _ a.at _ _ (move_unit 4 c.unit_at-a.result c.unit_at-b.result) _ turn _ _ c.loop-k.end c.loop-k.invariant.3 _ _ c.move_unit.ensures c.in-Err.is
 
 pub loop-k-preserved : goal.loop-k-preserved
 loop-k-preserved c =
@@ -25,7 +25,7 @@ loop-k-preserved c =
       omega arith,
       omega arith,
       omega arith,
-      turn_on a.base _ a.at _ _ (move_unit 4 c.unit_at-a.result c.unit_at-b.result) _ turn _ _ c.loop-k.end c.loop-k.invariant.3 _ _ c.move_unit.ensures c.in-On.is,
+      turn_on a.base _ a.at _ _ (move_unit 4 c.unit_at-a.result c.unit_at-b.result) _ turn _ _ c.loop-k.end c.loop-k.invariant.3 _ _ c.move_unit.ensures c.in-Ok.is,
     )
 
 pub returns : goal.returns

@@ -14,11 +14,11 @@ returns-in_default c lent d = window_outside _ lent d _ _ _ _ _ _ (not_there _ _
 pub returns-then-not-has_room : goal.returns-then-not-has_room
 unfolding legal
 returns-then-not-has_room c lent d =
-    window_full _ lent d _ _ _ _ _ _ (at_there _ _ _ _ c.where_is.ensures c.in-At.is d) c.requires.one_of (no_room _ _ c.has_room.ensures (ap not c.if-not-has_room.true))
+    window_full _ lent d _ _ _ _ _ _ (at_there _ _ _ _ c.where_is.ensures c.in-Some.is d) c.requires.one_of (no_room _ _ c.has_room.ensures (ap not c.if-not-has_room.true))
 
 pub store_known-requires : goal.store_known-requires
 store_known-requires c =
-    (at_within _ _ _ _ c.where_is.ensures c.in-At.is, room _ _ c.has_room.ensures (ap not c.if-not-has_room.false), c.requires)
+    (at_within _ _ _ _ c.where_is.ensures c.in-Some.is, room _ _ c.has_room.ensures (ap not c.if-not-has_room.false), c.requires)
 
 pub overflow_add-result : goal.overflow_add-result
 overflow_add-result c = record { fits = omega (arith, room c.args.at (length c.args.journal.now) c.has_room.ensures (ap not c.if-not-has_room.false)) }

@@ -17,7 +17,7 @@ pub returns-in_default : goal.returns-in_default
 returns-in_default c t = other_place _ _ _ _ _ t c.is_memory_width.ensures (ap not c.if-not-is_memory_width.false) c.where_is.ensures c.in_default.is
 
 pub put_width-requires : goal.put_width-requires
-put_width-requires c = (at_fits _ _ _ _ c.where_is.ensures c.in-At.is, table-width _ (memory_width _ (sym c.is_memory_width.ensures ∙ c.if-not-is_memory_width.false)))
+put_width-requires c = (at_fits _ _ _ _ c.where_is.ensures c.in-Some.is, table-width _ (memory_width _ (sym c.is_memory_width.ensures ∙ c.if-not-is_memory_width.false)))
 
 pub returns : goal.returns
-returns c t = laid_back _ _ _ _ _ t c.is_memory_width.ensures (ap not c.if-not-is_memory_width.false) c.where_is.ensures c.in-At.is c.put_width.ensures
+returns c t = laid_back _ _ _ _ _ t c.is_memory_width.ensures (ap not c.if-not-is_memory_width.false) c.where_is.ensures c.in-Some.is c.put_width.ensures

@@ -5,35 +5,14 @@ use native.Mathlib.Nat.{sub-zero}
 use mathlib.Core.Path.{refl, sym, ◌∙◌}
 use Rattle.journal.proofs.undo_stores.Goals as goal
 
-pub loop-done-init : goal.loop-done-init
-loop-done-init c = (omega arith, λ d. rw sub-zero, refl)
+pub loop-k-init : goal.loop-k-init
+loop-k-init c = (λ d. refl, refl)
 
-pub overflow_sub-last : goal.overflow_sub-last
-overflow_sub-last c = omega arith
-
-pub overflow_sub-last-in-loop-done : goal.overflow_sub-last-in-loop-done
-overflow_sub-last-in-loop-done c = omega arith
-
-pub overflow_mul-last : goal.overflow_mul-last
-overflow_mul-last c = omega arith
-
-pub overflow_add-from : goal.overflow_add-from
-overflow_add-from c = omega arith
-
-pub undo_store-requires : goal.undo_store-requires
-undo_store-requires c = omega arith
-
-pub overflow_add-done : goal.overflow_add-done
-overflow_add-done c = omega arith
-
-pub loop-done-smaller : goal.loop-done-smaller
-loop-done-smaller c = omega arith
-
-pub loop-done-preserved : goal.loop-done-preserved
-loop-done-preserved c = (omega arith, λ d. undo-turn _ _ _ _ _ _ _ (omega arith) (omega arith) c.undo_store.ensures d ∙ c.loop-done.invariant.1 d, omega (arith, c.undo_store.auto.table))
-
-pub shape_of-window : goal.shape_of-window
-shape_of-window c = omega arith
+pub loop-k-preserved : goal.loop-k-preserved
+loop-k-preserved c =
+    let a = c.args in
+    let l = c.loop-k in
+    (λ d. undo-turn a.base l.k a.from a.journal.now l.window l.table c.loop-k-test.true (omega arith) c.undo_store.ensures d ∙ l.invariant.0 d, omega (arith, c.undo_store.auto.window))
 
 pub returns : goal.returns
-returns c d = rw (← c.span-count.ensures) (sym (undo_none _ _ _ _ (omega arith)) ∙ c.loop-done.invariant.1 d)
+returns c d = rw (← c.span-count.ensures) (sym (undo_none _ _ _ _ (omega arith)) ∙ c.loop-k.invariant.0 d)

@@ -6,9 +6,7 @@ use Prim.Native.Nat.{◌-◌, ◌≤◌}
 use mathlib.Core.Path.{◌≡◌}
 use Rattle.journal.proofs.undo_stores.Given as goal
 
-abbrev pub invariant-loop-done : goal.invariant-loop-done
-invariant-loop-done l =
-    (l.done ≤ l.count) × ((d : Device) → undo_lines l.base (l.count - l.done) (drop l.from l.journal) (machine_of l.window l.table d) ≡ undo_lines l.base l.count (drop l.from l.journal) (machine_of l.initial.window l.initial.table d)) × (length l.window ≡ length l.initial.window)
+abbrev pub invariant-loop-k : goal.invariant-loop-k
+invariant-loop-k l =
+    ((d : Device) → undo_lines l.base l.k (drop l.from l.journal) (machine_of l.window l.table d) ≡ undo_lines l.base l.count (drop l.from l.journal) (machine_of l.initial.window l.initial.table d)) × (length l.window ≡ length l.initial.window)
 
-abbrev pub decreases-loop-done : goal.decreases-loop-done
-decreases-loop-done l = l.count - l.done

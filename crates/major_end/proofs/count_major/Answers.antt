@@ -7,4 +7,4 @@ pub returns-in_default : goal.returns-in_default
 returns-in_default c base lent d w j t = stays base lent _ d w j t _ c.in_default.is
 
 pub returns : goal.returns
-returns c base lent d w j t = majors-changed base lent d _ w j t _ c.in-Going.is _ _ c.wrapping_add_u64.ensures.value (search rules)
+returns c base lent d w j t = majors-changed base lent d _ w j t _ c.in-Ok.is _ _ c.wrapping_add_u64.ensures.value (search rules)

@@ -16,17 +16,17 @@ pub returns-in_default-where_is : goal.returns-in_default-where_is
 returns-in_default-where_is c lent d j t m k =
     gather_outside _ lent d _ _ j t m k 32 _ _ c.loop-i-test.true _ c.wrapping_add_u32-a.ensures.value c.where_is.ensures c.in_default-where_is.is _
     ∙ c.loop-i.invariant.2 lent d j t m k
-    ∙ told_so _ lent _ d _ j t m c.in-Going.is
+    ∙ told_so _ lent _ d _ j t m c.in-Ok.is
 
 pub bounds-window-o : goal.bounds-window-o
-bounds-window-o c = omega (arith, at_fits _ _ _ 1 c.where_is.ensures c.in-At.is)
+bounds-window-o c = omega (arith, at_fits _ _ _ 1 c.where_is.ensures c.in-Some.is)
 
 pub loop-i-preserved : goal.loop-i-preserved
 loop-i-preserved c = (
   omega arith,
   simp length-set c.loop-i.invariant.1,
   λ lent d j t m k. rw (add-one c.loop-i.i, take-suc-set c.loop-i.next c.loop-i.i _ (omega arith), ← add-one c.loop-i.i)
-      (gather-inside _ lent d _ _ j t m k 32 _ _ c.loop-i-test.true _ c.wrapping_add_u32-a.ensures.value c.where_is.ensures c.in-At.is
+      (gather-inside _ lent d _ _ j t m k 32 _ _ c.loop-i-test.true _ c.wrapping_add_u32-a.ensures.value c.where_is.ensures c.in-Some.is
       ∙ c.loop-i.invariant.2 lent d j t m k),
 )
 
@@ -34,4 +34,4 @@ pub returns : goal.returns
 returns c lent d j t m k =
     gather_end _ lent _ k 32 _ c.loop-i.next _ (omega arith) (omega arith)
     ∙ c.loop-i.invariant.2 lent d j t m k
-    ∙ told_so _ lent _ d _ j t m c.in-Going.is
+    ∙ told_so _ lent _ d _ j t m c.in-Ok.is

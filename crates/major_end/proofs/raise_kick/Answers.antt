@@ -8,7 +8,7 @@ returns-in_default c base lent d w j t m = stays base lent _ d w j t m c.in_defa
 
 pub returns-then-on : goal.returns-then-on
 returns-then-on c base lent d w j t m =
-    taken base lent _ _ _ c.if-on.true (scalar_changed base lent d _ w j t m c.in-Going.is _ 5 _ refl c.gain_bit-mask.ensures (search rules))
+    taken base lent _ _ _ c.if-on.true (scalar_changed base lent d _ w j t m c.in-Ok.is _ 5 _ refl c.gain_bit-mask.ensures (search rules))
 
 pub returns : goal.returns
-returns c base lent d w j t m = skips base lent d _ w j t m c.in-Going.is _ _ c.if-on.false
+returns c base lent d w j t m = skips base lent d _ w j t m c.in-Ok.is _ _ c.if-on.false

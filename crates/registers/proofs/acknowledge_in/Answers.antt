@@ -33,5 +33,5 @@ returns c x p base w staging =
     let a = c.args in
     accepts _ base (whole a.k (taking x _)) w staging _ a.used (rw (sym c.bad_journal.ensures ∙ c.if-bad_journal.false))
     (heard_made a.k x _ _ a.used a.journal.now (acknowledge a.ipl) _ p (used_fits _ _ c.bad_journal.ensures c.if-bad_journal.false) (c.ack_irq-heard.ensures x p)
-    c.note_taken-counts.ensures c.note_end.ensures c.done-r.result c.done-r.ensures base w staging c.in-Accepted.is)
+    c.note_taken-counts.ensures c.note_end.ensures c.done-r.result c.done-r.ensures base w staging c.in-Ok.is)
     ∙ asked_after (ack a.ipl) base (whole a.k (taking x _)) w staging _ a.used refl refl

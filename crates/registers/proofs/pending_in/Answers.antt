@@ -60,5 +60,5 @@ returns c x p base w staging =
     accepts _ base (whole a.k (counted x _)) w staging _ a.used (rw (sym c.bad_journal.ensures ∙ c.if-bad_journal.false, le-ltb _ _ c.if-channel-gt63.false, sym c.bad_sum.ensures ∙ c.if-bad_sum.false))
     (counts-made a.k _ x _ _ a.used a.journal.now (add_pending a.channel a.count) p (used_fits _ _ c.bad_journal.ensures c.if-bad_journal.false) c.settle-s.ensures
     (pending-does a.k x _ a.channel a.count f) c.begun.ensures c.note_core-numbers.ensures (c.note_count-counts.ensures _ (counts-long a.k x _ p) refl) c.note_end.ensures c.done-r.result c.done-r.ensures base w staging
-    c.in-Accepted.is)
+    c.in-Ok.is)
     ∙ stopped_after (pending a.channel a.count) base (whole a.k (counted x _)) w staging _ a.used refl

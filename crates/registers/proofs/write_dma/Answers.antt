@@ -1,9 +1,9 @@
 -- `registers::write_dma` meets its contract. Assumes nothing.
+use Rattle.std.specs.Prelude.{None}
 use Rattle.registers.proofs.Laws.{unknown, known, used_fits, fair, no_register, crossing, bad_group, nothing-wrong, refuses, accepts, dma_goes, priority_there, priority_write, priority_inside}
 use Rattle.acting.proofs.Laws.{stood_new, stood_old}
 use Rattle.act.specs.Parts.{counted, tabled, ordered, whole}
 use Rattle.rules.specs.declared.Refusal.TheVariants as Refusal
-use Rattle.rules.specs.declared.Heard.TheVariants as Heard
 use Rattle.rules.specs.Registers.{dma_write}
 use Rattle.rules.specs.Carry.{lending}
 use Rattle.rules.specs.Calls.{levelled, or_nothing}
@@ -74,7 +74,7 @@ returns-in_default c =
           (dma_goes base lent act a.k y t _ w a.journal.now a.used (c.edma_write-s.ensures base lent (whole a.k (tabled y _)) w x.majors refl)) in
           accepts _ base (whole a.k (tabled y t)) w staging _ a.used
           (nothing-wrong _ _ _ (known (c.edma_known.ensures a.value) c.if-not-edma_known.false) (sym c.past_end.ensures ∙ c.if-past_end.false) fair)
-          (stood_old c.end_core-r.result (tabled y t) (tabled y _) Heard.Nothing w staging _ c.in_default.is
+          (stood_old c.end_core-r.result (tabled y t) (tabled y _) None w staging _ c.in_default.is
           (c.end_core-r.ensures (tabled y t) _ base lent (levelled act) w a.journal.now staging p fits (λ h. g.levels) g.since g.later g.left)),
       λ n e. refl,
     )
@@ -93,7 +93,7 @@ returns c =
           (dma_goes base lent act a.k y t _ w a.journal.now a.used (c.edma_write-s.ensures base lent (whole a.k (tabled y _)) w x.majors refl)) in
           accepts _ base (whole a.k (tabled y t)) w staging _ a.used
           (nothing-wrong _ _ _ (known (c.edma_known.ensures a.value) c.if-not-edma_known.false) (sym c.past_end.ensures ∙ c.if-past_end.false) fair)
-          (stood_new c.end_core-r.result (tabled y t) (tabled y _) Heard.Nothing w staging _ c.in-Accepted.is
+          (stood_new c.end_core-r.result (tabled y t) (tabled y _) None w staging _ c.in-Ok.is
           (c.end_core-r.ensures (tabled y t) _ base lent (levelled act) w a.journal.now staging p fits (λ h. g.levels) g.since g.later g.left)),
       λ n e. refl,
     )

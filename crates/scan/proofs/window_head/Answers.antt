@@ -23,4 +23,4 @@ overflow_mul-result c = record { fits = omega (arith, legal-most window c.args.w
 pub returns : goal.returns
 returns c =
     wide _ _ _ _ _ (sym c.is_memory_width.ensures ∙ c.if-not-is_memory_width.false)
-    (inside _ _ _ _ c.where_is.ensures c.in-At.is)
+    (inside _ _ _ _ c.where_is.ensures c.in-Some.is)

@@ -26,7 +26,7 @@ pub loop-left-preserved : goal.loop-left-preserved
 loop-left-preserved c =
     let a = c.args in
     let l = c.loop-left in
-    (search rules, search rules, search rules, turns_again a.base _ a.time a.pace _ l.s _ _ _ _ _ _ _ l.invariant.3 c.loop-left-test.true c.if-kick-eq0.false _ c.next_channel-ch.ensures.0 _ (ap lending l.invariant.1) _ _ _ _ _ _ _ c.turn-r.ensures _ c.in-Going.is)
+    (search rules, search rules, search rules, turns_again a.base _ a.time a.pace _ l.s _ _ _ _ _ _ _ l.invariant.3 c.loop-left-test.true c.if-kick-eq0.false _ c.next_channel-ch.ensures.0 _ (ap lending l.invariant.1) _ _ _ _ _ _ _ c.turn-r.ensures _ c.in-Ok.is)
 
 pub returns : goal.returns
 returns c =

@@ -24,10 +24,10 @@ pub returns-in-To : goal.returns-in-To
 returns-in-To c d =
     let a = c.args in
     unequal_to a.base _ d a.window.now a.journal.now a.at a.reads _ _ _ _ a.ssize _ a.from _ c.if-staging-all.false _ _
-    (c.read_sizes-r.ensures _ d a.journal.now a.at) c.in-At.is _ _ _ (c.write_sizes.ensures _ d) c.in-To.is
+    (c.read_sizes-r.ensures _ d a.journal.now a.at) c.in-Some.is _ _ _ (c.write_sizes.ensures _ d) c.in-To.is
 
 pub returns-in-Not : goal.returns-in-Not
 returns-in-Not c d =
     let a = c.args in
     unequal_not a.base _ d a.window.now a.journal.now a.at a.reads _ _ _ _ a.ssize _ a.from _ c.if-staging-all.false _ _
-    (c.read_sizes-r.ensures _ d a.journal.now a.at) c.in-At.is _ _ _ (c.write_sizes.ensures _ d) c.in-Not.is
+    (c.read_sizes-r.ensures _ d a.journal.now a.at) c.in-Some.is _ _ _ (c.write_sizes.ensures _ d) c.in-Not.is

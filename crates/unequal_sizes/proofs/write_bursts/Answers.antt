@@ -16,12 +16,12 @@ write_units4-requires c =
     let p = c.requires in
     (omega (arith, p.0, p.1), omega (arith, fewer c.loop-left.left c.args.size c.loop-left-test.true, p.2, p.4))
 
-pub returns-in-Off : goal.returns-in-Off
+pub returns-in-Err : goal.returns-in-Err
 unfolding wrote
-returns-in-Off c =
+returns-in-Err c =
     let a = c.args in
     let turn = write_bursts_on c.loop-left.left a.doff a.dmod a.size c.loop-left.d a.staging.now c.loop-left.pos c.loop-left-test.true refl c.requires.0 in
-    turn-off a.base _ a.at _ _ _ _ turn _ _ c.loop-left.end c.loop-left.invariant.3 _ _ c.write_units4.ensures c.in-Off.is
+    turn-off a.base _ a.at _ _ _ _ turn _ _ c.loop-left.end c.loop-left.invariant.3 _ _ c.write_units4.ensures c.in-Err.is
 
 pub overflow_add-pos : goal.overflow_add-pos
 overflow_add-pos c =
@@ -35,7 +35,7 @@ loop-left-preserved c =
       omega arith,
       omega arith,
       omega (arith, fewer c.loop-left.left a.size more),
-      turn_on a.base _ a.at _ _ _ _ turn _ _ c.loop-left.end c.loop-left.invariant.3 _ _ c.write_units4.ensures c.in-On.is,
+      turn_on a.base _ a.at _ _ _ _ turn _ _ c.loop-left.end c.loop-left.invariant.3 _ _ c.write_units4.ensures c.in-Ok.is,
     )
 
 pub returns : goal.returns

@@ -12,12 +12,12 @@ use Rattle.unequal_sizes.proofs.write_sizes2.Goals as goal
 pub loop-left-init : goal.loop-left-init
 loop-left-init c = (search rules, refl, refl, omega arith, λ lent d. refl)
 
-pub returns-in-Off : goal.returns-in-Off
+pub returns-in-Err : goal.returns-in-Err
 unfolding wrote
-returns-in-Off c =
+returns-in-Err c =
     let a = c.args in
     let turn = write_single_on c.loop-left.left a.doff a.dmod 2 c.loop-left.d a.staging.now c.loop-left.pos c.loop-left-test.true refl (lit< tt) (lit≤ tt) c.loop-left.invariant.0 c.get2-v.ensures in
-    turn-off a.base _ a.at _ _ _ _ turn _ _ c.loop-left.end c.loop-left.invariant.4 _ _ c.store.ensures c.in-Off.is
+    turn-off a.base _ a.at _ _ _ _ turn _ _ c.loop-left.end c.loop-left.invariant.4 _ _ c.store.ensures c.in-Err.is
 
 pub loop-left-preserved : goal.loop-left-preserved
 loop-left-preserved c =
@@ -27,7 +27,7 @@ loop-left-preserved c =
       omega arith,
       omega arith,
       omega arith,
-      turn_on a.base _ a.at _ _ _ _ turn _ _ c.loop-left.end c.loop-left.invariant.4 _ _ c.store.ensures c.in-On.is,
+      turn_on a.base _ a.at _ _ _ _ turn _ _ c.loop-left.end c.loop-left.invariant.4 _ _ c.store.ensures c.in-Ok.is,
     )
 
 pub returns : goal.returns

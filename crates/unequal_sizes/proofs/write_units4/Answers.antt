@@ -11,12 +11,12 @@ use Rattle.unequal_sizes.proofs.write_units4.Goals as goal
 pub loop-k-init : goal.loop-k-init
 loop-k-init c = (omega arith, refl, refl, λ lent d. rw sub-zero)
 
-pub returns-in-Off : goal.returns-in-Off
+pub returns-in-Err : goal.returns-in-Err
 unfolding walked
-returns-in-Off c =
+returns-in-Err c =
     let a = c.args in
     let turn = writes-on a.count c.loop-k.k 4 a.to a.staging.now a.pos c.loop-k-test.true c.unit_at-b.ensures c.get4-v.ensures in
-    turn-off a.base _ a.at _ _ _ _ turn _ _ c.loop-k.end c.loop-k.invariant.3 _ _ c.store.ensures c.in-Off.is
+    turn-off a.base _ a.at _ _ _ _ turn _ _ c.loop-k.end c.loop-k.invariant.3 _ _ c.store.ensures c.in-Err.is
 
 pub loop-k-preserved : goal.loop-k-preserved
 loop-k-preserved c =
@@ -25,7 +25,7 @@ loop-k-preserved c =
       omega arith,
       omega arith,
       omega arith,
-      turn_on a.base _ a.at _ _ _ _ turn _ _ c.loop-k.end c.loop-k.invariant.3 _ _ c.store.ensures c.in-On.is,
+      turn_on a.base _ a.at _ _ _ _ turn _ _ c.loop-k.end c.loop-k.invariant.3 _ _ c.store.ensures c.in-Ok.is,
     )
 
 pub returns : goal.returns
