@@ -1,7 +1,8 @@
 -- The laws by which the engine's functions are proved against their trees: one after another, choices, reads, changed scalars, and stores
 -- with their records, each over plain variables. Assumes nothing.
-use Rattle.std.specs.Prelude.{Result, Ok, Err}
-use Rattle.std.specs.Result.{IsErr, IsErrAnd}
+use Rattle.std.specs.Prelude.{Option, None, Result, Ok, Err}
+use Rattle.std.specs.Option.{ok_or}
+use Rattle.std.specs.Result.{IsErr, IsErrAnd, result_ok}
 use Rattle.std.proofs.lemmas.Result.{err_from_is_err_and}
 use mathlib.Core.Bool.{Bool, true, false, cond}
 use mathlib.Core.List.{List, ◌++◌}
@@ -218,11 +219,21 @@ module _ (base : ℕ) (lent : Lent) (d : Device) (w j : List ℕ) (e : ℕ) (x :
 
 -- ---- what `?` hands on
 
--- of a step that was refused `?` makes the same step
-pub handed_on : {T E : Type 0} {e : E} {s : Result T E} (r : Result T E) → IsErr r × IsErrAnd r (λ y. y ≡ e) → s ≡ Err e → r ≡ s
-handed_on r gave was = let p = err_from_is_err_and r gave.1 in p.1 ∙ ap (λ y. Err y) p.2 ∙ sym was
+-- the same error
+pub made_err : {T E : Type 0} {e : E} (r : Result T E) → IsErr r × IsErrAnd r (λ y. y ≡ e) → r ≡ Err e
+made_err r gave = let p = err_from_is_err_and r gave.1 in p.1 ∙ ap (λ y. Err y) p.2
 
--- and nothing more happens to it
+-- a refused step is handed on as it was
 pub stays_refused : (base : ℕ) (lent : Lent) (m : Act (Unit {0})) {s : Step} {e : Stopped Flow} (r : Step) (d : Device) (w j t l : List ℕ)
     → IsErr r × IsErrAnd r (λ y. y ≡ e) → s ≡ Err e → came_to r d w j t l ≡ on base lent m (came_to s d w j t l)
-stays_refused base lent m r d w j t l gave was = rw (handed_on r gave was) (stays base lent m d w j t l was)
+stays_refused base lent m r d w j t l gave was = rw (made_err r gave ∙ sym was) (stays base lent m d w j t l was)
+
+-- where there was none, `ok_or` and `?` make the error given
+pub none_refused : {T U E : Type 0} {o : Option T} {q : Result T E} {e y : E} (r : Result U E) → q ≡ ok_or o e → o ≡ result_ok q → q ≡ Err y
+    → IsErr r × IsErrAnd r (λ z. z ≡ y) → (o ≡ None) × (r ≡ Err e)
+none_refused {o} {q} {e} {y} r value part was gave =
+    let none : o ≡ None = part ∙ ap result_ok was in
+    let same : ok_or o e ≡ Err y = sym value ∙ was in
+    let p = err_from_is_err_and r gave.1 in
+    let is : y ≡ e = (let z : Err e ≡ Err y = ap (λ x. ok_or x e) (sym none) ∙ same in sym cc) in
+    (none, p.1 ∙ ap (λ x. Err x) (p.2 ∙ is))

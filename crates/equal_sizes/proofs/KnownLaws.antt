@@ -94,16 +94,19 @@ module _ {base len width n : ℕ} {step : Steps} {s d room e : ℕ} (more : n �
   pub here_room : e + 16 ≤ room
   here_room = omega (arith, known.records, more)
 
-  pub known_on : {s' d' : ℕ} → 0 < width → s' ≡ (s + step.soff) % 2 ^ 32 → d' ≡ (d + step.doff) % 2 ^ 32 → Known base len width (n - 1) step s' d' room (e + 16)
-  known_on pos p q = record {
+  pub known_on : {s' d' rest : ℕ} → n ≡ suc rest → 0 < width → s' ≡ (s + step.soff) % 2 ^ 32 → d' ≡ (d + step.doff) % 2 ^ 32 → Known base len width rest step s' d' room (e + 16)
+  known_on {s'} {d'} {rest} next pos p q = record {
     small = known.small;
     sources_plain = known.sources_plain;
     targets_plain = known.targets_plain;
     unwrapped = known.unwrapped;
-    sources = inside_on base len width n step.soff s more known.sources pos known.unwrapped p;
-    targets = inside_on base len width n step.doff d more known.targets pos known.unwrapped q;
+    sources = rw less at (inside_on base len width n step.soff s more known.sources pos known.unwrapped p);
+    targets = rw less at (inside_on base len width n step.doff d more known.targets pos known.unwrapped q);
     records = omega (arith, known.records, more);
   }
+    where
+      less : n - 1 ≡ rest
+      less = omega arith
 
 -- ---- sizes of m units of 4 with no gap between them are n * m units of 4
 
@@ -139,11 +142,10 @@ joined (suc m) k r s d =
     let A : ℕ = wrap32 (s + k * 4) in
     let B : ℕ = wrap32 (d + k * 4) in
     let e : k + suc m ≡ suc k + m = omega arith in
-    let l : suc (m + r) - 1 ≡ m + r = omega arith in
     rw (e, suc-add m r)
     (bind_then 4 A B (move_units m (suc k) 4 s d) (fours r (wrap32 (s + (suc k + m) * 4)) (wrap32 (d + (suc k + m) * 4)))
-    ∙ ap (λ (y : Act (ℕ × ℕ)). move_unit 4 A B >> y) (joined m (suc k) r s d ∙ ap (λ (n : ℕ). fours n (wrap32 (s + suc k * 4)) (wrap32 (d + suc k * 4))) (sym l))
-    ∙ single_on (suc (m + r)) 4 0 4 0 4 A B (suc-ne-zero (m + r)) (sym (plus_plain s k)) (sym (plus_plain d k)) (lit< tt) (lit≤ tt) (wraps (s + k * 4)) (wraps (d + k * 4)))
+    ∙ ap (λ (y : Act (ℕ × ℕ)). move_unit 4 A B >> y) (joined m (suc k) r s d)
+    ∙ single_on (suc (m + r)) (m + r) 4 0 4 0 4 A B refl (sym (plus_plain s k)) (sym (plus_plain d k)) (lit< tt) (lit≤ tt) (wraps (s + k * 4)) (wraps (d + k * 4)))
 
 packed : (n m size s d : ℕ) → size ≡ m * 4 → 4 ≤ size → s < 2 ^ 32 → d < 2 ^ 32 → fours (n * m) s d ≡ move_sizes n size 0 size 0 size s d
 unfolding move_sizes
@@ -153,14 +155,13 @@ packed (suc n) m size s d e h ls ld =
     let d' : ℕ = wrap32 (d + (0 + m) * 4) in
     let units : size / 4 ≡ m = omega arith in
     let all : suc n * m ≡ m + n * m = omega (arith, suc-mul n m) in
-    let l : suc n - 1 ≡ n = omega arith in
     rw all
     (ap (λ (x : ℕ). fours (m + n * m) x d) (begins s ls) ∙ ap (λ (x : ℕ). fours (m + n * m) (wrap32 (s + 0 * 4)) x) (begins d ld)
     ∙ sym (joined m 0 (n * m) s d)
     ∙ ap (λ (y : Act (ℕ × ℕ)). move_units m 0 4 s d >> y)
-    (packed n m size s' d' e h (wraps (s + (0 + m) * 4)) (wraps (d + (0 + m) * 4)) ∙ ap (λ (k : ℕ). move_sizes k size 0 size 0 size s' d') (sym l))
-    ∙ ap (λ (k : ℕ). move_units k 0 4 s d >> move_sizes (suc n - 1) size 0 size 0 size s' d') (sym units)
-    ∙ bursts_on (suc n) size 0 size 0 size s d (suc-ne-zero n) (steps s) (steps d) h)
+    (packed n m size s' d' e h (wraps (s + (0 + m) * 4)) (wraps (d + (0 + m) * 4)))
+    ∙ ap (λ (k : ℕ). move_units k 0 4 s d >> move_sizes n size 0 size 0 size s' d') (sym units)
+    ∙ bursts_on (suc n) n size 0 size 0 size s d refl (steps s) (steps d) h)
   where
     steps : (x : ℕ) → wrap32 (x + (0 + m) * 4) ≡ modulo_add x size 0
     steps x = ap (λ (y : ℕ). wrap32 (x + y)) (omega (arith, e)) ∙ plain_sum x size

@@ -17,7 +17,6 @@ use Rattle.memory.specs.Places.{place_of}
 use Rattle.std.specs.Prelude.{Option}
 use Rattle.memory.proofs.Laws.{not_there, at_there, at_index}
 use Rattle.equal_sizes.specs.Moves.{moved}
-use Rattle.equal_sizes.specs.declared.Moved.TheVariants.{To}
 
 -- ---- a unit, by where it is read
 
@@ -65,16 +64,16 @@ one_unit u s d h ls ld = rw (div_self h, zero-mul u, add-zero s, add-zero d, mod
 
 -- ---- sizes in turn
 
-module _ (left soff smod doff dmod size s d : ℕ) (more : left ≡ 0 → ⊥) {s' d' : ℕ} (p : s' ≡ modulo_add s soff smod) (q : d' ≡ modulo_add d doff dmod) where
+-- `rest` of them are left after this one
+module _ (left rest soff smod doff dmod size s d : ℕ) (more : left ≡ suc rest) {s' d' : ℕ} (p : s' ≡ modulo_add s soff smod) (q : d' ≡ modulo_add d doff dmod) where
   abbrev after : Act (ℕ × ℕ)
-  after = move_sizes (left - 1) soff smod doff dmod size s' d'
+  after = move_sizes rest soff smod doff dmod size s' d'
 
   -- a size that moves in units of u
   sizes_on : (u : ℕ) → u ≡ unit_of size → move_units (size / u) 0 u s d >> after ≡ move_sizes left soff smod doff dmod size s d
   unfolding move_sizes ◌>>◌
   sizes_on u e =
-      let l : left ≡ suc (left - 1) = omega arith in
-      rw (ap (λ (n : ℕ). move_sizes n soff smod doff dmod size s d) l, e, p, q)
+      rw (ap (λ (n : ℕ). move_sizes n soff smod doff dmod size s d) more, e, p, q)
 
   pub bursts_on : 4 ≤ size → move_units (size / 4) 0 4 s d >> after ≡ move_sizes left soff smod doff dmod size s d
   unfolding unit_of
@@ -86,7 +85,7 @@ module _ (left soff smod doff dmod size s d : ℕ) (more : left ≡ 0 → ⊥) {
   single_on h k ls ld = ap (λ (m : Act (Unit {0})). m >> after) (sym (one_unit size s d h ls ld)) ∙ sizes_on size (sym (min-eq_left k))
 
 pub sizes_end : (base : ℕ) (lent : Lent) (dev : Device) (left soff smod doff dmod size s d e : ℕ) (w j : List ℕ) {o : Out (ℕ × ℕ)} → left ≡ 0
-    → go base lent (move_sizes left soff smod doff dmod size s d) (world_of dev w j e) ≡ o → moved (To s d e) dev w j ≡ o
+    → go base lent (move_sizes left soff smod doff dmod size s d) (world_of dev w j e) ≡ o → moved (Ok (record { from = s; to = d; at = e })) dev w j ≡ o
 unfolding move_sizes moved go
 sizes_end base lent dev left soff smod doff dmod size s d e w j z rest =
     ap (λ (n : ℕ). go base lent (move_sizes n soff smod doff dmod size s d) (world_of dev w j e)) (sym z) ∙ rest

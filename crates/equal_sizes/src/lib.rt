@@ -14,8 +14,7 @@ ghost use Rattle.act.specs.Worlds.{Walks};
 ghost use Rattle.equal_sizes.specs.Moves.{Moves};
 ghost use Rattle.equal_sizes.specs.Known.{Recorded, Within, Inside, Known, Plain, sizes_of};
 
-use act::Walk;
-use memory::Place;
+use act::{Stopped, Walk};
 use rules::Refusal;
 
 // What the addresses step by after each whole size, and with which modulo.
@@ -27,11 +26,12 @@ pub struct Steps {
     pub dmod: u32,
 }
 
-// The two addresses after a transfer, and the journal's end; or why it is refused, and the journal's end there.
+// The two addresses after a transfer, and the journal's end.
 #[derive(Clone, Copy)]
-pub enum Moved {
-    To(u32, u32, usize),
-    Not(Refusal, usize),
+pub struct Moved {
+    pub from: u32,
+    pub to: u32,
+    pub at: usize,
 }
 
 // ---- a unit stored, "one record per store, changed or not, before the store"; "9 before 11 at one store". The old value is read and room for its
@@ -69,52 +69,44 @@ pub fn store(
     requires { MemoryWidth width }
     ensures { Walks (store in_window address width value) base at result ⇒ window ⇒ journal }
 {
-    let Place::At(_) = memory::where_is(base, window, address, width) else {
-        return Walk::Off(Refusal::Outside, at);
-    };
+    memory::where_is(base, window, address, width).ok_or(Stopped {
+        why: Refusal::Outside,
+        at,
+    })?;
     if !journal::has_room(journal, at) {
-        return Walk::Off(Refusal::Room, at);
+        return Err(Stopped {
+            why: Refusal::Room,
+            at,
+        });
     }
     store_known(base, window, address, width, value, journal, at);
-    Walk::On(at + 16)
+    Ok(at + 16)
 }
 
-// ---- a unit moved. Each arm stores with a constant width, which takes fewer instructions than one store with the width as it comes.
+// ---- a unit moved
 
-fn move_unit(
+fn move_unit<const WIDTH: usize>(
     base: u32,
     window: &mut [u8],
-    width: usize,
     a: u32,
     b: u32,
     journal: &mut [u8],
     at: usize,
 ) -> Walk
-    requires { MemoryWidth width }
-    ensures { Walks (move_unit width a b) base at result ⇒ window ⇒ journal }
+    requires { MemoryWidth WIDTH }
+    ensures { Walks (move_unit WIDTH a b) base at result ⇒ window ⇒ journal }
 {
-    let Place::At(i) = memory::where_is(base, window, a, width) else {
-        return Walk::Off(Refusal::Outside, at);
-    };
-    match width {
-        1 => {
-            let v = words::get1(window, i);
-            store(base, window, b, 1, v as u64, journal, at)
-        }
-        2 => {
-            let v = words::get2(window, i);
-            store(base, window, b, 2, v as u64, journal, at)
-        }
-        _ => {
-            let v = words::get4(window, i);
-            store(base, window, b, 4, v as u64, journal, at)
-        }
-    }
+    let i = memory::where_is(base, window, a, WIDTH).ok_or(Stopped {
+        why: Refusal::Outside,
+        at,
+    })?;
+    let v = words::get_width(window, i, WIDTH);
+    store(base, window, b, WIDTH, v, journal, at)
 }
 
 // ---- sizes of 1, 2 and 4 bytes, each one unit: "only the step by `soff` or `doff` after each whole size uses modulo"
 
-fn move_sizes1(
+fn move_units<const WIDTH: usize>(
     base: u32,
     window: &mut [u8],
     count: u32,
@@ -123,94 +115,23 @@ fn move_sizes1(
     to: u32,
     journal: &mut [u8],
     at: usize,
-) -> Moved
-    requires { (step.smod < 32) × (step.dmod < 32) }
-    ensures { Moves (move_sizes count step.soff step.smod step.doff step.dmod 1 from to) base at result ⇒ window ⇒ journal }
+) -> Result<Moved, Stopped<usize>>
+    requires { (MemoryWidth WIDTH) × (step.smod < 32) × (step.dmod < 32) }
+    ensures { Moves (move_sizes count step.soff step.smod step.doff step.dmod WIDTH from to) base at result ⇒ window ⇒ journal }
 {
     let mut s = from;
     let mut d = to;
     let mut end = at;
-    let mut left = count;
-    while left != 0 {
-        match move_unit(base, window, 1, s, d, journal, end) {
-            Walk::On(next) => {
-                end = next;
-            }
-            Walk::Off(n, e) => {
-                return Moved::Not(n, e);
-            }
-        }
+    for _ in 0..count {
+        end = move_unit::<WIDTH>(base, window, s, d, journal, end)?;
         s = words::modulo_add(s, step.soff, step.smod);
         d = words::modulo_add(d, step.doff, step.dmod);
-        left -= 1;
     }
-    Moved::To(s, d, end)
-}
-
-fn move_sizes2(
-    base: u32,
-    window: &mut [u8],
-    count: u32,
-    step: Steps,
-    from: u32,
-    to: u32,
-    journal: &mut [u8],
-    at: usize,
-) -> Moved
-    requires { (step.smod < 32) × (step.dmod < 32) }
-    ensures { Moves (move_sizes count step.soff step.smod step.doff step.dmod 2 from to) base at result ⇒ window ⇒ journal }
-{
-    let mut s = from;
-    let mut d = to;
-    let mut end = at;
-    let mut left = count;
-    while left != 0 {
-        match move_unit(base, window, 2, s, d, journal, end) {
-            Walk::On(next) => {
-                end = next;
-            }
-            Walk::Off(n, e) => {
-                return Moved::Not(n, e);
-            }
-        }
-        s = words::modulo_add(s, step.soff, step.smod);
-        d = words::modulo_add(d, step.doff, step.dmod);
-        left -= 1;
-    }
-    Moved::To(s, d, end)
-}
-
-fn move_sizes4(
-    base: u32,
-    window: &mut [u8],
-    count: u32,
-    step: Steps,
-    from: u32,
-    to: u32,
-    journal: &mut [u8],
-    at: usize,
-) -> Moved
-    requires { (step.smod < 32) × (step.dmod < 32) }
-    ensures { Moves (move_sizes count step.soff step.smod step.doff step.dmod 4 from to) base at result ⇒ window ⇒ journal }
-{
-    let mut s = from;
-    let mut d = to;
-    let mut end = at;
-    let mut left = count;
-    while left != 0 {
-        match move_unit(base, window, 4, s, d, journal, end) {
-            Walk::On(next) => {
-                end = next;
-            }
-            Walk::Off(n, e) => {
-                return Moved::Not(n, e);
-            }
-        }
-        s = words::modulo_add(s, step.soff, step.smod);
-        d = words::modulo_add(d, step.doff, step.dmod);
-        left -= 1;
-    }
-    Moved::To(s, d, end)
+    Ok(Moved {
+        from: s,
+        to: d,
+        at: end,
+    })
 }
 
 // ---- sizes of 16 and 32 bytes, which move in units of 4
@@ -220,7 +141,7 @@ pub fn unit_at(address: u32, k: u32) -> u32
     requires { k < 8 }
     ensures { result ≡ (address + k * 4) % 2 ^ 32 }
 {
-    std::num::wrapping_add_u32(address, k * 4)
+    address.wrapping_add(k * 4)
 }
 
 // `count` units, "in rising k".
@@ -237,21 +158,12 @@ fn move_units4(
     ensures { Walks (move_units count 0 4 from to) base at result ⇒ window ⇒ journal }
 {
     let mut end = at;
-    let mut k: u32 = 0;
-    while k < count {
+    for k in 0..count {
         let a = unit_at(from, k);
         let b = unit_at(to, k);
-        match move_unit(base, window, 4, a, b, journal, end) {
-            Walk::On(next) => {
-                end = next;
-            }
-            Walk::Off(n, e) => {
-                return Walk::Off(n, e);
-            }
-        }
-        k += 1;
+        end = move_unit::<4>(base, window, a, b, journal, end)?;
     }
-    Walk::On(end)
+    Ok(end)
 }
 
 fn move_bursts(
@@ -264,7 +176,7 @@ fn move_bursts(
     to: u32,
     journal: &mut [u8],
     at: usize,
-) -> Moved
+) -> Result<Moved, Stopped<usize>>
     requires { (4 ≤ size) × (size ≤ 32) × (step.smod < 32) × (step.dmod < 32) }
     ensures { Moves (move_sizes count step.soff step.smod step.doff step.dmod size from to) base at result ⇒ window ⇒ journal }
 {
@@ -272,21 +184,16 @@ fn move_bursts(
     let mut s = from;
     let mut d = to;
     let mut end = at;
-    let mut left = count;
-    while left != 0 {
-        match move_units4(base, window, units, s, d, journal, end) {
-            Walk::On(next) => {
-                end = next;
-            }
-            Walk::Off(n, e) => {
-                return Moved::Not(n, e);
-            }
-        }
+    for _ in 0..count {
+        end = move_units4(base, window, units, s, d, journal, end)?;
         s = words::modulo_add(s, step.soff, step.smod);
         d = words::modulo_add(d, step.doff, step.dmod);
-        left -= 1;
     }
-    Moved::To(s, d, end)
+    Ok(Moved {
+        from: s,
+        to: d,
+        at: end,
+    })
 }
 
 // ---- `count` whole sizes, of any size, where every unit asks
@@ -301,14 +208,14 @@ fn move_asking(
     to: u32,
     journal: &mut [u8],
     at: usize,
-) -> Moved
+) -> Result<Moved, Stopped<usize>>
     requires { (Sized size) × (step.smod < 32) × (step.dmod < 32) }
     ensures { Moves (move_sizes count step.soff step.smod step.doff step.dmod size from to) base at result ⇒ window ⇒ journal }
 {
     match size {
-        1 => move_sizes1(base, window, count, step, from, to, journal, at),
-        2 => move_sizes2(base, window, count, step, from, to, journal, at),
-        4 => move_sizes4(base, window, count, step, from, to, journal, at),
+        1 => move_units::<1>(base, window, count, step, from, to, journal, at),
+        2 => move_units::<2>(base, window, count, step, from, to, journal, at),
+        4 => move_units::<4>(base, window, count, step, from, to, journal, at),
         _ => move_bursts(base, window, size, count, step, from, to, journal, at),
     }
 }
@@ -324,49 +231,49 @@ struct Units {
 }
 
 // A unit moved, where both places are known to lie in the window.
-fn move_known(
+fn move_known<const WIDTH: usize>(
     base: u32,
     window: &mut [u8],
-    width: usize,
     a: u32,
     b: u32,
     journal: &mut [u8],
     at: usize,
 )
-    requires { (Within base (length window.old) a width) × (Within base (length window.old) b width) × (at + 16 ≤ length journal.old) × (MemoryWidth width) }
-    ensures { Recorded (move_unit width a b) base at ⇒ window ⇒ journal }
+    requires { (Within base (length window.old) a WIDTH) × (Within base (length window.old) b WIDTH) × (at + 16 ≤ length journal.old) × (MemoryWidth WIDTH) }
+    ensures { Recorded (move_unit WIDTH a b) base at ⇒ window ⇒ journal }
 {
-    let v = words::get_width(window, (a - base) as usize, width);
-    store_known(base, window, b, width, v, journal, at);
+    let v = words::get_width(window, (a - base) as usize, WIDTH);
+    store_known(base, window, b, WIDTH, v, journal, at);
 }
 
-// `count` of them. Their modulos are 0, so that the addresses step by plain sums. Callers give a constant width.
-fn run_known(
+// `count` of them. Their modulos are 0, so that the addresses step by plain sums.
+fn run_known<const WIDTH: usize>(
     base: u32,
     window: &mut [u8],
-    width: usize,
     count: u32,
     step: Steps,
     from: u32,
     to: u32,
     journal: &mut [u8],
     at: usize,
-) -> Moved
-    requires { (MemoryWidth width) × (Known base (length window.old) width count step from to (length journal.old) at) }
-    ensures { Moves (sizes_of count step width from to) base at result ⇒ window ⇒ journal }
+) -> Result<Moved, Stopped<usize>>
+    requires { (MemoryWidth WIDTH) × (Known base (length window.old) WIDTH count step from to (length journal.old) at) }
+    ensures { Moves (sizes_of count step WIDTH from to) base at result ⇒ window ⇒ journal }
 {
     let mut s = from;
     let mut d = to;
     let mut end = at;
-    let mut left = count;
-    while left != 0 {
-        move_known(base, window, width, s, d, journal, end);
-        s = std::num::wrapping_add_u32(s, step.soff);
-        d = std::num::wrapping_add_u32(d, step.doff);
+    for _ in 0..count {
+        move_known::<WIDTH>(base, window, s, d, journal, end);
+        s = s.wrapping_add(step.soff);
+        d = d.wrapping_add(step.doff);
         end += 16;
-        left -= 1;
     }
-    Moved::To(s, d, end)
+    Ok(Moved {
+        from: s,
+        to: d,
+        at: end,
+    })
 }
 
 // The same by the width.
@@ -378,7 +285,7 @@ fn move_known_sizes(
     to: u32,
     journal: &mut [u8],
     at: usize,
-) -> Moved
+) -> Result<Moved, Stopped<usize>>
     requires { (MemoryWidth units.width) × (Known base (length window.old) units.width units.count units.step from to (length journal.old) at) }
     ensures { Moves (sizes_of units.count units.step units.width from to) base at result ⇒ window ⇒ journal }
 {
@@ -386,9 +293,9 @@ fn move_known_sizes(
     let step = units.step;
     let width = units.width;
     match width {
-        1 => run_known(base, window, 1, count, step, from, to, journal, at),
-        2 => run_known(base, window, 2, count, step, from, to, journal, at),
-        _ => run_known(base, window, 4, count, step, from, to, journal, at),
+        1 => run_known::<1>(base, window, count, step, from, to, journal, at),
+        2 => run_known::<2>(base, window, count, step, from, to, journal, at),
+        _ => run_known::<4>(base, window, count, step, from, to, journal, at),
     }
 }
 
@@ -484,7 +391,7 @@ pub fn move_sizes(
     to: u32,
     journal: &mut [u8],
     at: usize,
-) -> Moved
+) -> Result<Moved, Stopped<usize>>
     requires { (Sized size) × (step.smod < 32) × (step.dmod < 32) }
     ensures { Moves (move_sizes count step.soff step.smod step.doff step.dmod size from to) base at result ⇒ window ⇒ journal }
 {

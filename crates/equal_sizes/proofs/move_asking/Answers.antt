@@ -9,10 +9,10 @@ move_bursts-requires c =
     (bursting _ p.0 others.0.0.1 others.0.1 others.1, p.0.most, p.1, p.2)
 
 pub returns-in-1 : goal.returns-in-1
-returns-in-1 c = rw c.in-1.is c.move_sizes1.ensures
+returns-in-1 c = rw c.in-1.is c.move_units.ensures
 
 pub returns-in-2 : goal.returns-in-2
-returns-in-2 c = rw c.in-2.is c.move_sizes2.ensures
+returns-in-2 c = rw c.in-2.is c.move_units-in-2.ensures
 
 pub returns-in-4 : goal.returns-in-4
-returns-in-4 c = rw c.in-4.is c.move_sizes4.ensures
+returns-in-4 c = rw c.in-4.is c.move_units-in-4.ensures

@@ -1,31 +1,36 @@
--- `equal_sizes::move_bursts` meets its contract. The loop's invariant and measure are those of `move_sizes4`; a turn
--- is the law of a size in units of 4. Assumes nothing.
-use Rattle.std.proofs.Common.{refl, arith}
+-- `equal_sizes::move_bursts` meets its contract. The loop's invariant is that of `move_units`; a turn is the law of a size in units of 4. Assumes nothing.
+use Rattle.std.proofs.Common.{◌+◌, ◌-◌, refl, arith}
+use native.Mathlib.Nat.{sub-zero}
+use Rattle.act.proofs.Laws.{made_err}
 use Rattle.act.proofs.Loops.{turn_on, turn-off}
 use Rattle.equal_sizes.proofs.Laws.{bursts_on, sizes_end}
 use Rattle.equal_sizes.specs.Moves.{moved}
 use Rattle.equal_sizes.proofs.move_bursts.Goals as goal
 
-pub loop-left-init : goal.loop-left-init
-loop-left-init c = (refl, refl, λ lent d. refl)
+pub loop-init : goal.loop-init
+loop-init c = (refl, refl, λ lent d. rw sub-zero)
 
-pub returns-in-Err : goal.returns-in-Err
+pub returns-in_err-end : goal.returns-in_err-end
 unfolding moved
-returns-in-Err c =
+returns-in_err-end c lent d =
     let a = c.args in
-    let turn = bursts_on c.loop-left.left a.step.soff a.step.smod a.step.doff a.step.dmod a.size c.loop-left.s c.loop-left.d c.loop-left-test.true refl refl c.requires.0 in
-    turn-off a.base _ a.at _ _ _ _ turn _ _ c.loop-left.end c.loop-left.invariant.2 _ _ c.move_units4.ensures c.in-Err.is
+    let l = c.loop in
+    let turn = bursts_on (a.count - l.counter) (a.count - (l.counter + 1)) a.step.soff a.step.smod a.step.doff a.step.dmod a.size l.s l.d (omega arith) refl refl c.requires.0 in
+    rw (made_err c.from_residual.result c.from_residual.ensures)
+    (turn-off a.base _ a.at _ _ _ _ turn _ _ l.end l.invariant.2 _ _ c.move_units4.ensures c.in_err-end.was lent d)
 
-pub loop-left-preserved : goal.loop-left-preserved
-loop-left-preserved c =
+pub loop-preserved : goal.loop-preserved
+loop-preserved c =
     let a = c.args in
-    let turn = bursts_on c.loop-left.left a.step.soff a.step.smod a.step.doff a.step.dmod a.size c.loop-left.s c.loop-left.d c.loop-left-test.true c.modulo_add-s.ensures c.modulo_add-d.ensures c.requires.0 in (
+    let l = c.loop in
+    let turn = bursts_on (a.count - l.counter) (a.count - (l.counter + 1)) a.step.soff a.step.smod a.step.doff a.step.dmod a.size l.s l.d (omega arith) c.modulo_add-s.ensures c.modulo_add-d.ensures c.requires.0 in (
       omega arith,
       omega arith,
-      turn_on a.base _ a.at _ _ _ _ turn _ _ c.loop-left.end c.loop-left.invariant.2 _ _ c.move_units4.ensures c.in-Ok.is,
+      turn_on a.base _ a.at _ _ _ _ turn _ _ l.end l.invariant.2 _ _ c.move_units4.ensures c.in_ok-end.was,
     )
 
 pub returns : goal.returns
 returns c lent dev =
     let a = c.args in
-    sizes_end a.base lent dev c.loop-left.left _ _ _ _ a.size c.loop-left.s c.loop-left.d c.loop-left.end c.loop-left.window c.loop-left.journal (omega arith) (c.loop-left.invariant.2 lent dev)
+    let l = c.loop in
+    sizes_end a.base lent dev (a.count - l.counter) _ _ _ _ a.size l.s l.d l.end l.window l.journal (omega arith) (l.invariant.2 lent dev)
