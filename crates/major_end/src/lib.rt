@@ -12,8 +12,7 @@ ghost use Rattle.rules.specs.Words.{has, gain, lose, count_of};
 ghost use Rattle.act.specs.Lent.{◌⇒◌};
 ghost use Rattle.act.specs.Worlds.{OnTable, OnScalars, OnMajors, OnWindow, OnRest, Gives};
 
-use act::Step;
-use memory::Place;
+use act::{Step, Stopped};
 use rules::{ACTIVE, DONE, DREQ, ESG, INTHALF, INTMAJOR, MAJORELINK, Refusal, START, Tcd};
 
 // ---- the bits of `csr`
@@ -45,48 +44,36 @@ pub fn raise_int(s: Step, on: bool, ch: usize) -> Step
     requires { ch < 64 }
     ensures { OnScalars (when on (change INT (λ m. gain m ch))) s result }
 {
-    let Step::Going(c) = s else {
-        return s;
-    };
-    if on {
-        let mask = words::gain_bit(c.scalars.int, ch);
-        let mut f = c;
-        f.scalars.int = mask;
-        return Step::Going(f);
+    let mut c = s?;
+    if !on {
+        return Ok(c);
     }
-    s
+    c.scalars.int = words::gain_bit(c.scalars.int, ch);
+    Ok(c)
 }
 
 pub fn raise_kick(s: Step, on: bool, ch: usize) -> Step
     requires { ch < 64 }
     ensures { OnScalars (when on (change KICK (λ m. gain m ch))) s result }
 {
-    let Step::Going(c) = s else {
-        return s;
-    };
-    if on {
-        let mask = words::gain_bit(c.scalars.kick, ch);
-        let mut f = c;
-        f.scalars.kick = mask;
-        return Step::Going(f);
+    let mut c = s?;
+    if !on {
+        return Ok(c);
     }
-    s
+    c.scalars.kick = words::gain_bit(c.scalars.kick, ch);
+    Ok(c)
 }
 
 pub fn lower_erq(s: Step, on: bool, ch: usize) -> Step
     requires { ch < 64 }
     ensures { OnScalars (when on (change ERQ (λ m. lose m ch))) s result }
 {
-    let Step::Going(c) = s else {
-        return s;
-    };
-    if on {
-        let mask = words::lose_bit(c.scalars.erq, ch);
-        let mut f = c;
-        f.scalars.erq = mask;
-        return Step::Going(f);
+    let mut c = s?;
+    if !on {
+        return Ok(c);
     }
-    s
+    c.scalars.erq = words::lose_bit(c.scalars.erq, ch);
+    Ok(c)
 }
 
 // "Majors + 1"; "majors and taken counts wrap at 2^64".
@@ -94,11 +81,8 @@ pub fn count_major(s: Step, majors: &mut [u64; 64], ch: usize) -> Step
     requires { ch < 64 }
     ensures { OnMajors (change (MAJORS ch) (λ n. (n + 1) % 2 ^ 64)) s result ⇒ majors }
 {
-    let Step::Going(_) = s else {
-        return s;
-    };
-    let n = majors[ch];
-    majors[ch] = std::num::wrapping_add_u64(n, 1);
+    s?;
+    majors[ch] = majors[ch].wrapping_add(1);
     s
 }
 
@@ -189,17 +173,14 @@ fn gather(s: Step, base: u32, window: &[u8], from: u32, next: &mut [u8]) -> Step
     requires { length next.old ≡ 32 }
     ensures { Gives (gather 32 from []) base s result next.new window.now }
 {
-    let Step::Going(c) = s else {
-        return s;
-    };
-    let mut i: usize = 0;
-    while i < 32 {
-        let a = std::num::wrapping_add_u32(from, i as u32);
-        let Place::At(o) = memory::where_is(base, window, a, 1) else {
-            return Step::Refused(Refusal::Outside, c);
-        };
+    let c = s?;
+    for i in 0..32 {
+        let a = from.wrapping_add(i as u32);
+        let o = memory::where_is(base, window, a, 1).ok_or(Stopped {
+            why: Refusal::Outside,
+            at: c,
+        })?;
         next[i] = window[o];
-        i += 1;
     }
     s
 }

@@ -9,9 +9,5 @@ use Rattle.major_end.proofs.gather.Given as goal
 
 abbrev pub invariant-loop-i : goal.invariant-loop-i
 invariant-loop-i l =
-    (l.i ≤ 32)
-    × (length l.next ≡ 32)
+    (length l.next ≡ 32)
     × ((lent : Lent) (d : Device) (j t m : List ℕ) (k : List ℕ → Act (Unit {0})) → on l.base lent (gather (32 - l.i) (l.from + l.i) (take l.i l.next) >>= k) (came_to l.s d l.window j t m) ≡ on l.base lent (gather 32 l.from [] >>= k) (came_to l.s d l.window j t m))
-
-abbrev pub decreases-loop-i : goal.decreases-loop-i
-decreases-loop-i l = 32 - l.i

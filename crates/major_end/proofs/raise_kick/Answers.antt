@@ -1,14 +1,14 @@
 -- `major_end::raise_kick` meets its contract: a refused step stays, and the scalar gains its bit where `on`. Assumes nothing.
 use Rattle.std.proofs.Common.{refl, rules}
-use Rattle.act.proofs.Laws.{stays, skips, taken, scalar_changed}
+use Rattle.act.proofs.Laws.{stays_refused, skips, taken, scalar_changed}
 use Rattle.major_end.proofs.raise_kick.Goals as goal
 
-pub returns-in_default : goal.returns-in_default
-returns-in_default c base lent d w j t m = stays base lent _ d w j t m c.in_default.is
-
-pub returns-then-on : goal.returns-then-on
-returns-then-on c base lent d w j t m =
-    taken base lent _ _ _ c.if-on.true (scalar_changed base lent d _ w j t m c.in-Ok.is _ 5 _ refl c.gain_bit-mask.ensures (search rules))
+pub returns-in_err-c : goal.returns-in_err-c
+returns-in_err-c c base lent d w j t m = stays_refused base lent _ c.from_residual.result d w j t m c.from_residual.ensures c.in_err-c.was
 
 pub returns : goal.returns
-returns c base lent d w j t m = skips base lent d _ w j t m c.in-Ok.is _ _ c.if-on.false
+returns c base lent d w j t m =
+    taken base lent _ _ _ c.if-not-on.false (scalar_changed base lent d _ w j t m c.in_ok-c.was _ 5 _ refl c.gain_bit-c.ensures (search rules))
+
+pub returns-then-not-on : goal.returns-then-not-on
+returns-then-not-on c base lent d w j t m = skips base lent d _ w j t m c.in_ok-c.was _ _ c.if-not-on.true
