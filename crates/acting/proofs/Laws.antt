@@ -87,8 +87,8 @@ module _ (base : ℕ) (lent : Lent) (act : Act (Unit {0})) (d : Device) (w j₀ 
           ends = rw f refl;
         }
 
-    pub settled_off : {s : Step} {why : Refusal} {c : Flow} → s ≡ Err (record { why = why; at = c }) → came_to s (whole k x) w' j x.table x.majors ≡ go base lent act u
-        → Settled k x s (record { walk = Err (record { why = why; at = c.at }); core = k }) base lent act d w j₀ w' j used
+    pub settled_off : {s : Step} {stopped : Stopped Flow} → s ≡ Err stopped → came_to s (whole k x) w' j x.table x.majors ≡ go base lent act u
+        → Settled k x s (record { walk = Err (record { why = stopped.why; at = stopped.at.at }); core = k }) base lent act d w j₀ w' j used
     unfolding came_to
     settled_off {why = why} {c = c} f goes =
         let e = whole (record { scalars = c.scalars; controllers = k.controllers; ignore_masks = k.ignore_masks }) x in

@@ -6,7 +6,7 @@ ghost use Rattle.std.specs.Prelude.{◌≡◌, ◌≤◌, length};
 ghost use Rattle.act.specs.Lent.{◌⇒◌};
 ghost use Rattle.acting.specs.Ending.{begun_at, refused_by, done_by, cleared_from, Settles, EndsCore};
 
-use act::{Core, Done, Step, Walk};
+use act::{Core, Done, Step, Stopped, Walk};
 use closing::Noted;
 use rules::{Refusal, Verdict};
 
@@ -33,17 +33,19 @@ pub fn settle(k: Core, s: Step) -> Reached
     ensures { Settles k s result }
 {
     match s {
-        Step::Going(c) => {
-            let scalars = c.scalars;
+        Ok(c) => {
             let mut e = k;
-            e.scalars = scalars;
+            e.scalars = c.scalars;
             Reached {
-                walk: Walk::On(c.at),
+                walk: Ok(c.at),
                 core: controllers::update_irq(e),
             }
         }
-        Step::Refused(why, c) => Reached {
-            walk: Walk::Off(why, c.at),
+        Err(stopped) => Reached {
+            walk: Err(Stopped {
+                why: stopped.why,
+                at: stopped.at.at,
+            }),
             core: k,
         },
     }
@@ -53,10 +55,7 @@ pub fn settle(k: Core, s: Step) -> Reached
 pub fn begun(w: Walk) -> Noted
     ensures { result ≡ begun_at w }
 {
-    match w {
-        Walk::On(at) => Noted::At(at),
-        Walk::Off(_, _) => Noted::Full,
-    }
+    w.ok()
 }
 
 // What the act that began with `k` answers, once its last records are there or did not fit.
@@ -65,9 +64,9 @@ pub fn done(k: Core, s: Reached, n: Noted, used: usize) -> Done
 {
     let w = s.walk;
     match w {
-        Walk::Off(why, _) => refused(k, why, used),
-        Walk::On(_) => {
-            let Noted::At(end) = n else {
+        Err(stopped) => refused(k, stopped.why, used),
+        Ok(_) => {
+            let Some(end) = n else {
                 return refused(k, Refusal::Room, used);
             };
             let core = s.core;

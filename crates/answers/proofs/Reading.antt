@@ -1,5 +1,5 @@
 -- What a caller reads off an answer is what was put there. Assumes nothing.
-use Rattle.std.specs.Prelude.{None}
+use Rattle.std.specs.Prelude.{Some, None}
 use mathlib.Core.List.{◌∷◌, []}
 use mathlib.Core.Path.{◌≡◌, refl, ◌∙◌}
 use Prim.Native.Nat.{ℕ, ◌+◌, ◌*◌, ◌%◌, ◌^◌, ◌<◌}
@@ -22,7 +22,7 @@ unpacked n l v low h k = parts (low % 2 ^ 32) (mod-lt low (lit< tt))
 
 heard_bytes : (heard : Heard) → Audible heard → (heard_level heard < 2 ^ 8) × (heard_vector heard < 2 ^ 8)
 heard_bytes None a = (lit< tt, lit< tt)
-heard_bytes (Heard.Source l v) a = (omega (arith, a.1), a.3)
+heard_bytes (Some source) a = (omega (arith, a.1), a.3)
 
 -- of an outcome: its number, what was heard, and its used length where that fits 32 bits
 module _ (n : ℕ) (heard : Heard) (used : ℕ) (a : Audible heard) where
@@ -37,7 +37,10 @@ module _ (n : ℕ) (heard : Heard) (used : ℕ) (a : Audible heard) where
 
 pub heard_is : (n : ℕ) (heard : Heard) (used : ℕ) → Audible heard → heard_in (packed n (heard_level heard) (heard_vector heard) used) ≡ heard
 heard_is n None used a = let r = unpacked n 0 0 used (lit< tt) (lit< tt) in rw r.1 refl
-heard_is n (Heard.Source l v) used a = let r = unpacked n l v used (omega (arith, a.1)) a.3 in rw (r.1, r.2, ne_eqb l 0 (λ e. omega (arith, a.0))) refl
+heard_is n (Some source) used a =
+    let l = source.level in
+    let v = source.vector in
+    let r = unpacked n l v used (omega (arith, a.1)) a.3 in rw (r.1, r.2, ne_eqb l 0 (λ e. omega (arith, a.0))) refl
 
 pub read_status : (t : ToldRead) → status_in (read_by t) ≡ read_number t
 unfolding read_by

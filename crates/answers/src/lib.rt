@@ -46,7 +46,7 @@ fn level_of(h: Heard) -> u8
 {
     match h {
         None => 0,
-        Heard::Source(level, _) => level,
+        Some(source) => source.level,
     }
 }
 
@@ -55,7 +55,7 @@ fn vector_of(h: Heard) -> u8
 {
     match h {
         None => 0,
-        Heard::Source(_, vector) => vector,
+        Some(source) => source.vector,
     }
 }
 

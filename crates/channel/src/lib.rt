@@ -10,10 +10,9 @@ ghost use Rattle.rules.specs.Minor.{tcd_of};
 ghost use Rattle.rules.specs.Run.{start_loop, start_passes, line_loop, line_passes, request_loop, request_passes};
 ghost use Rattle.act.specs.Lent.{◌⇒◌, by};
 ghost use Rattle.channel.specs.Offers.{offered_in};
-ghost use Rattle.channel.specs.Goes.{Goes, Asks, Sums, at_sum};
+ghost use Rattle.channel.specs.Goes.{Goes, Asks, Sums};
 
-use act::{Flow, Step};
-use minor::Passed;
+use act::{Flow, Step, Stopped};
 use rules::{DONE, LINE, Refusal};
 
 // ---- requests
@@ -32,19 +31,12 @@ pub fn offered(erq: u64, standing: u64, pending: &[u32; 64], ch: usize) -> bool
     pending[ch] != 0
 }
 
-fn less_one(count: u32) -> u32
-    ensures { (result ≡ count - 1) × (count < 2 ^ 32) }
-{
-    if count == 0 { 0 } else { count - 1 }
-}
-
 // "Spend one pending count if there is one".
 pub fn spend(pending: &mut [u32; 64], ch: usize)
     requires { ch < 64 }
     ensures { (pending.new ≡ set pending.old ch (get_or pending.old ch 0 - 1)) × (get_or pending.old ch 0 < 2 ^ 32) }
 {
-    let count = pending[ch];
-    pending[ch] = less_one(count);
+    pending[ch] = pending[ch].saturating_sub(1);
 }
 
 // ---- what a turn reads of a descriptor. The table's length is told too: its type alone does not tell it in a loop.
@@ -81,39 +73,23 @@ pub fn start_loop(
     ensures { Goes (start_loop start_passes ch before) base (by staging) c result ⇒ window ⇒ journal ⇒ table ⇒ majors }
 {
     let mut f = c;
-    let mut left: usize = 0x8000;
-    while 0 < left {
-        let Passed::Ran(s) = minor::dma_minor(f, base, window, table, majors, ch, staging, journal)
-        else {
-            return Step::Going(f);
+    for _ in 0..0x8000 {
+        let Some(s) = minor::dma_minor(f, base, window, table, majors, ch, staging, journal) else {
+            return Ok(f);
         };
-        let Step::Going(next) = s else {
-            return s;
-        };
-        f = next;
+        f = s?;
         if majors[ch] != before {
-            return Step::Going(f);
+            return Ok(f);
         }
-        left -= 1;
     }
-    Step::Going(f)
+    Ok(f)
 }
 
-// The bytes that the passes of channel 35 summed to; or why they are refused.
+// The bytes that the passes of channel 35 summed to, and where the act stands then.
 #[derive(Clone, Copy)]
-pub enum Line {
-    Sum(u64, Flow),
-    Broken(Refusal, Flow),
-}
-
-// The sum with the step that the passes ended with.
-fn at_sum(sum: u64, s: Step) -> Line
-    ensures { result ≡ at_sum sum s }
-{
-    match s {
-        Step::Going(c) => Line::Sum(sum, c),
-        Step::Refused(n, c) => Line::Broken(n, c),
-    }
+pub struct Line {
+    pub sum: u64,
+    pub flow: Flow,
 }
 
 // "Channel 35 runs until a pass answers no, DONE shows, or the sum of raw `nbytes` (read before each pass, added if the pass answers yes) is
@@ -126,33 +102,31 @@ pub fn line_loop(
     majors: &mut [u64; 64],
     staging: &mut [u8],
     journal: &mut [u8],
-) -> Line
+) -> Result<Line, Stopped<Flow>>
     ensures { Sums (line_loop line_passes 0) base (by staging) c result ⇒ window ⇒ journal ⇒ table ⇒ majors }
 {
     let mut f = c;
     let mut sum: u64 = 0;
-    let mut left: usize = 0x400001;
-    while 0 < left {
+    for _ in 0..0x400001 {
         let bytes = nbytes_of(table, LINE);
         let r = minor::dma_minor(f, base, window, table, majors, LINE, staging, journal);
         let csr = csr_of(table, LINE);
-        let Passed::Ran(s) = r else {
-            return Line::Sum(sum, f);
+        let Some(s) = r else {
+            return Ok(Line { sum, flow: f });
         };
-        let Step::Going(next) = s else {
-            return at_sum(sum, s);
-        };
-        f = next;
+        f = s?;
         sum += bytes;
         if words::has_bit(csr, DONE) {
-            return Line::Sum(sum, f);
+            return Ok(Line { sum, flow: f });
         }
         if 0x100000 < sum {
-            return Line::Sum(sum, f);
+            return Ok(Line { sum, flow: f });
         }
-        left -= 1;
     }
-    Line::Broken(Refusal::Room, f)
+    Err(Stopped {
+        why: Refusal::Room,
+        at: f,
+    })
 }
 
 // "Other channels, while ERQ and a request hold, spend one pending count if there is one, then run a pass, at most 1,048,577 passes." A pass
@@ -172,21 +146,15 @@ pub fn request_loop(
     ensures { Asks (request_loop request_passes ch) base (by staging) c result ⇒ window ⇒ journal ⇒ table ⇒ majors ⇒ pending }
 {
     let mut f = c;
-    let mut left: usize = 1048577;
-    while 0 < left {
+    for _ in 0..1048577 {
         if !offered(f.scalars.erq, f.scalars.standing, pending, ch) {
-            return Step::Going(f);
+            return Ok(f);
         }
         spend(pending, ch);
-        let Passed::Ran(s) = minor::dma_minor(f, base, window, table, majors, ch, staging, journal)
-        else {
-            return Step::Going(f);
+        let Some(s) = minor::dma_minor(f, base, window, table, majors, ch, staging, journal) else {
+            return Ok(f);
         };
-        let Step::Going(next) = s else {
-            return s;
-        };
-        f = next;
-        left -= 1;
+        f = s?;
     }
-    Step::Going(f)
+    Ok(f)
 }

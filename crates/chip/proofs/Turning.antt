@@ -1,6 +1,6 @@
 -- A turn, by cases, as the code makes it; and turns one after another: what is left to do from where the loop stands is the whole from where it
 -- began. Assumes nothing.
-use Rattle.std.specs.Prelude.{Ok, Err}
+use Rattle.std.specs.Prelude.{Some, None, Ok, Err, Option, Result}
 use mathlib.Core.Bool.{Bool, true, false, cond, not, ◌&&◌}
 use mathlib.Core.List.{List}
 use mathlib.Core.Path.{◌≡◌, refl, sym, ap, ap₂, ◌∙◌, subst}
@@ -32,46 +32,43 @@ use Rattle.act.specs.Worlds.{world, came_to}
 use Rattle.act.specs.declared.Flow.{Flow}
 use Rattle.act.specs.Worlds.{Step}
 use Rattle.minor.specs.Passes.{passed, Passes}
-use Rattle.minor.specs.declared.Passed.{Passed}
-use Rattle.minor.specs.declared.Passed.TheVariants.{Idle, Ran}
 use Rattle.channel.proofs.Reading.{tcd_in, descriptor_read}
 use Rattle.turns.specs.Turns.{around, turning, Paces}
 use Rattle.chip.specs.Chosen.{chosen}
 use Rattle.chip.specs.Seen.{start_in, Sees, ready_in, minor_link, major_link, Renews}
-use Rattle.chip.specs.Turned.{turned_to, ended_in, answered_in, line_turn, Passing, Serves}
+use Rattle.chip.specs.Turned.{turned_to, line_turn, Passing, Serves}
 use Rattle.chip.specs.declared.Kept.{Kept}
 use Rattle.chip.specs.declared.Turned.{Turned}
-use Rattle.chip.specs.declared.Turned.TheVariants.{Yes, No, Off}
+use Rattle.act.specs.declared.Stopped.{Stopped}
 use Rattle.chip.proofs.Choosing.{ready_at, choose-goes, chosen_none}
 use Rattle.chip.proofs.Seeing.{ready_seen, sees_again}
 
 -- ---- one pass
 
-module _ (base : ℕ) (lent : Lent) (ch : ℕ) (t : Flow) (w w' j j' tb tb' m m' : List ℕ) (r : Passed) (did : Passes (pass ch) base lent t r w w' j j' tb tb' m m') where
-  pub pass_not : r ≡ Idle → Passing (pass ch) base lent t (No t) w w' j j' tb tb' m m'
+module _ (base : ℕ) (lent : Lent) (ch : ℕ) (t : Flow) (w w' j j' tb tb' m m' : List ℕ) (r : Option Step) (did : Passes (pass ch) base lent t r w w' j j' tb tb' m m') where
+  pub pass_not : r ≡ None → Passing (pass ch) base lent t (Ok (record { went = false; flow = t })) w w' j j' tb tb' m m'
   unfolding passed turned_to
   pass_not e d = rw e at (did d)
 
-  pub pass_went : (s : Step) (f : Flow) → r ≡ Ran s → s ≡ Ok f → Passing (pass ch) base lent t (Yes f) w w' j j' tb tb' m m'
+  pub pass_went : (s : Step) (f : Flow) → r ≡ Some s → s ≡ Ok f → Passing (pass ch) base lent t (Ok (record { went = true; flow = f })) w w' j j' tb tb' m m'
   unfolding passed turned_to
   pass_went s f ran e d = rw (ran, e) at (did d)
 
-  pub pass-off : (s : Step) (n : Refusal) (f : Flow) → r ≡ Ran s → s ≡ Err (record { why = n; at = f }) → Passing (pass ch) base lent t (Off n f) w w' j j' tb tb' m m'
+  pub pass-off : (s : Step) (stopped : Stopped Flow) → r ≡ Some s → s ≡ Err stopped → Passing (pass ch) base lent t (Err stopped) w w' j j' tb tb' m m'
   unfolding passed turned_to
-  pass-off s n f ran e d = rw (ran, e) at (did d)
+  pass-off s stopped ran e d = rw (ran, e) at (did d)
 
 -- what comes behind it: with its answer, or not at all
 module _ (base : ℕ) (lent : Lent) (d : Device) (w' j' tb' m' : List ℕ) (u : World) (act : Act Bool) (k : Bool → Act Bool) where
-  pub passes_on : (r : Turned) → turned_to r d w' j' tb' m' ≡ go base lent act u
+  pub passes_on : (r : Result Turned (Stopped Flow)) → turned_to r d w' j' tb' m' ≡ go base lent act u
       → ((a : Bool) → k a ≡ (nothing >> done a)) → turned_to r d w' j' tb' m' ≡ go base lent (act >>= k) u
   unfolding turned_to go ◌>>=◌ ◌>>◌
-  passes_on (Yes c) e h = sym (bind_ok base lent act k u (sym e) ∙ rw (h true))
-  passes_on (No c) e h = sym (bind_ok base lent act k u (sym e) ∙ rw (h false))
-  passes_on (Off n c) e h = sym (bind_no base lent act k u (sym e))
+  passes_on (Ok turned) e h = sym (bind_ok base lent act k u (sym e) ∙ rw (h turned.went))
+  passes_on (Err stopped) e h = sym (bind_no base lent act k u (sym e))
 
 -- ---- channel 35 on request
 
-module _ (base : ℕ) (lent : Lent) (time pace : ℕ) (t : Flow) (w w' j j' tb tb' b m m' : List ℕ) (r : Turned) (did : Passing (pass 35) base lent t r w w' j j' tb tb' m m')
+module _ (base : ℕ) (lent : Lent) (time pace : ℕ) (t : Flow) (w w' j j' tb tb' b m m' : List ℕ) (r : Result Turned (Stopped Flow)) (did : Passing (pass 35) base lent t r w w' j j' tb tb' m m')
     (bytes : ℕ) (read : bytes ≡ (tcd_of (part tb (32 * 35) 32)).nbytes) (long : length tb ≡ 2048)
   where
     others : (b' : List ℕ) (until : ℕ) → b' ≡ set b 35 until → (c : ℕ) → (35 ≡ c → ⊥) → get_or b' c 0 ≡ get_or b c 0
@@ -82,32 +79,21 @@ module _ (base : ℕ) (lent : Lent) (time pace : ℕ) (t : Flow) (w w' j j' tb t
     unfolding line_turn
     begun d p = descriptor_read base lent 35 _ (turning d t w j tb b m p) (omega arith) ∙ rw (← read)
 
-    pub line_went : (f g : Flow) (b' : List ℕ) → r ≡ Yes f → Paces time pace bytes f g b b' → (p : List ℕ)
-        → Serves (line_turn time pace) 35 base lent t (Yes g) w w' j j' tb tb' b b' m m' p p
-    line_went f g b' e keeps p = record { does = does; busy = others b' _ keeps.until; pending = λ c h. refl }
+    pub line_went : (x : Turned) (g : Flow) (b' : List ℕ) → r ≡ Ok x → Paces time pace (cond x.went bytes 0) x.flow g b b' → (p : List ℕ)
+        → Serves (line_turn time pace) 35 base lent t (Ok (record { went = x.went; flow = g })) w w' j j' tb tb' b b' m m' p p
+    line_went x g b' e keeps p = record { does = does; busy = others b' _ keeps.until; pending = λ c h. refl }
       where
-        does : (d : Device) → turned_to (Yes g) (around d b' p) w' j' tb' m' ≡ go base lent (line_turn time pace) (turning d t w j tb b m p)
+        does : (d : Device) → turned_to (Ok (record { went = x.went; flow = g })) (around d b' p) w' j' tb' m' ≡ go base lent (line_turn time pace) (turning d t w j tb b m p)
         does d =
             let u = turning d t w j tb b m p in
             (unfold turned_to go ◌>>=◌ in
             sym (begun d p ∙ bind_ok base lent (pass 35) (λ went. paced time pace (cond went bytes 0) >> done went) u (sym (rw e at (did (around d b p))))
-            ∙ then_ok base lent (paced time pace bytes) (done true) _ (keeps.does base lent d w' j' tb' m' p)))
+            ∙ then_ok base lent (paced time pace (cond x.went bytes 0)) (done x.went) _ (keeps.does base lent d w' j' tb' m' p)))
 
-    pub line_not : (f g : Flow) (b' : List ℕ) → r ≡ No f → Paces time pace 0 f g b b' → (p : List ℕ)
-        → Serves (line_turn time pace) 35 base lent t (No g) w w' j j' tb tb' b b' m m' p p
-    line_not f g b' e keeps p = record { does = does; busy = others b' _ keeps.until; pending = λ c h. refl }
+    pub line-off : (stopped : Stopped Flow) → r ≡ Err stopped → (p : List ℕ) → Serves (line_turn time pace) 35 base lent t (Err stopped) w w' j j' tb tb' b b m m' p p
+    line-off stopped e p = record { does = does; busy = λ c h. refl; pending = λ c h. refl }
       where
-        does : (d : Device) → turned_to (No g) (around d b' p) w' j' tb' m' ≡ go base lent (line_turn time pace) (turning d t w j tb b m p)
-        does d =
-            let u = turning d t w j tb b m p in
-            (unfold turned_to go ◌>>=◌ in
-            sym (begun d p ∙ bind_ok base lent (pass 35) (λ went. paced time pace (cond went bytes 0) >> done went) u (sym (rw e at (did (around d b p))))
-            ∙ then_ok base lent (paced time pace 0) (done false) _ (keeps.does base lent d w' j' tb' m' p)))
-
-    pub line-off : (n : Refusal) (f : Flow) → r ≡ Off n f → (p : List ℕ) → Serves (line_turn time pace) 35 base lent t (Off n f) w w' j j' tb tb' b b m m' p p
-    line-off n f e p = record { does = does; busy = λ c h. refl; pending = λ c h. refl }
-      where
-        does : (d : Device) → turned_to (Off n f) (around d b p) w' j' tb' m' ≡ go base lent (line_turn time pace) (turning d t w j tb b m p)
+        does : (d : Device) → turned_to (Err stopped) (around d b p) w' j' tb' m' ≡ go base lent (line_turn time pace) (turning d t w j tb b m p)
         does d =
             let u = turning d t w j tb b m p in
             (unfold turned_to in
@@ -146,7 +132,7 @@ module _ (base : ℕ) (lent : Lent) (time pace ch : ℕ) (t : Flow) (w w' j j' t
         (sym read) (sym now)
 
     -- START led to it: nothing is spent, and there is no pace
-    module _ (on : has csr START ≡ true) (r : Turned) (did : Passing (pass ch) base lent (record { scalars = n; at = t.at }) r w w' j j' tb tb' m m') where
+    module _ (on : has csr START ≡ true) (r : Result Turned (Stopped Flow)) (did : Passing (pass ch) base lent (record { scalars = n; at = t.at }) r w w' j j' tb tb' m m') where
       started-does : (d : Device) → turned_to r (around d b p) w' j' tb' m' ≡ go base lent (chip_turn time pace ch) (turning d t w j tb b m p)
       unfolding served when go ◌>>=◌ ◌>>◌
       started-does d = passes_on base lent (around d b p) w' j' tb' m' (turning d (record { scalars = n; at = t.at }) w j tb b m p) (pass ch) (λ went. nothing >> done went) r (did (around d b p)) (λ a. refl) ∙ sym (from d ∙ rw on)
@@ -156,7 +142,7 @@ module _ (base : ℕ) (lent : Lent) (time pace ch : ℕ) (t : Flow) (w w' j j' t
 
     module _ (off : has csr START ≡ false) where
       -- channel 35: the pace applies
-      module _ (is : ch ≡ 35) (r : Turned) (b' : List ℕ) (did : (p : List ℕ) → Serves (line_turn time pace) 35 base lent (record { scalars = n; at = t.at }) r w w' j j' tb tb' b b' m m' p p) where
+      module _ (is : ch ≡ 35) (r : Result Turned (Stopped Flow)) (b' : List ℕ) (did : (p : List ℕ) → Serves (line_turn time pace) 35 base lent (record { scalars = n; at = t.at }) r w w' j j' tb tb' b b' m m' p p) where
         lined-does : (d : Device) → turned_to r (around d b' p) w' j' tb' m' ≡ go base lent (chip_turn time pace ch) (turning d t w j tb b m p)
         unfolding served when go ◌>>=◌ ◌>>◌ line_turn
         lined-does d =
@@ -168,7 +154,7 @@ module _ (base : ℕ) (lent : Lent) (time pace ch : ℕ) (t : Flow) (w w' j j' t
         turn-lined = record { does = lined-does; busy = λ c h. (did p).busy c (λ z. h (is ∙ z)); pending = λ c h. refl }
 
       -- another channel: one pending count is spent
-      module _ (isn't : ch ≡ 35 → ⊥) (p' : List ℕ) (spent : p' ≡ set p ch (get_or p ch 0 - 1)) (count : get_or p ch 0 < 2 ^ 32) (r : Turned)
+      module _ (isn't : ch ≡ 35 → ⊥) (p' : List ℕ) (spent : p' ≡ set p ch (get_or p ch 0 - 1)) (count : get_or p ch 0 < 2 ^ 32) (r : Result Turned (Stopped Flow))
           (did : Passing (pass ch) base lent (record { scalars = n; at = t.at }) r w w' j j' tb tb' m m')
         where
           spends : (d : Device) → go base lent (served time pace ch csr bytes) (turning d (record { scalars = n; at = t.at }) w j tb b m p)
@@ -197,23 +183,6 @@ module _ (base : ℕ) (lent : Lent) (time pace ch : ℕ) (t : Flow) (w w' j j' t
           }
 
 -- ---- turns one after another
-
--- how a turn ended, by its step
-module _ (d : Device) (w j tb m : List ℕ) where
-  turned_on : (r : Turned) (g : Flow) → ended_in r ≡ Ok g → turned_to r d w j tb m ≡ ok (answered_in r) (world d g w j tb m)
-  unfolding turned_to
-  turned_on (Yes c) g e = let same : c ≡ g = cc e in ap (λ (f : Flow). ok true (world d f w j tb m)) same
-  turned_on (No c) g e = let same : c ≡ g = cc e in ap (λ (f : Flow). ok false (world d f w j tb m)) same
-  turned_on (Off n c) g e = absurd (let z : ◌≡◌ {A = ℕ} 0 1 = cc e in omega arith)
-
-  turned_off : (r : Turned) (n : Refusal) (g : Flow) → ended_in r ≡ Err (record { why = n; at = g }) → turned_to r d w j tb m ≡ no (refusal_number n) (world d g w j tb m)
-  unfolding turned_to
-  turned_off (Yes c) n g e = absurd (let z : ◌≡◌ {A = ℕ} 0 1 = cc e in omega arith)
-  turned_off (No c) n g e = absurd (let z : ◌≡◌ {A = ℕ} 0 1 = cc e in omega arith)
-  turned_off (Off k c) n g e =
-      let why : k ≡ n = cc e in
-      let same : c ≡ g = cc e in
-      ap₂ (λ (x : Refusal) (f : Flow). no (refusal_number x) (world d f w j tb m)) why same
 
 -- one turn of the tree, where the ready channels are those of a mask
 module _ (base : ℕ) (lent : Lent) (time pace : ℕ) (u : World) (long : length u.now.dev.table ≡ 2048) (past mask : ℕ)
@@ -257,12 +226,12 @@ module _ {base : ℕ} {lent : Lent} {time pace : ℕ} {o : List ℕ} {d : Device
     unfolding came_to chip_turns go
     chips_out e = let z : left ≡ 0 = omega arith in rw z at at.rest
 
-    module _ (more : 0 < left) (mask : ℕ) (is : mask ≡ ready_in s.scalars.erq s.scalars.standing k) where
+    module _ (after : ℕ) (more : left ≡ suc after) (mask : ℕ) (is : mask ≡ ready_in s.scalars.erq s.scalars.standing k) where
       abbrev u : World
       u = turning d s w j tb b m p
 
-      from_here : go base lent (chip_turns time pace (suc (left - 1)) k.past) (turning d s w j tb b m p) ≡ whole
-      from_here = let q : suc (left - 1) ≡ left = omega arith in rw q at.rest
+      from_here : go base lent (chip_turns time pace (suc after) k.past) (turning d s w j tb b m p) ≡ whole
+      from_here = rw more at at.rest
 
       seen : (c : ℕ) → c < 64 → has mask c ≡ (ready_at time (turning d s w j tb b m p) c && not (has k.past c))
       unfolding ready_at
@@ -270,10 +239,10 @@ module _ {base : ℕ} {lent : Lent} {time pace : ℕ} {o : List ℕ} {d : Device
 
       pub chips_stop : mask ≡ 0 → came_to (Ok s) (around d b p) w j tb m ≡ whole
       unfolding came_to
-      chips_stop e = sym (chips_none base lent time pace u at.proper.size k.past mask seen (left - 1) e) ∙ from_here
+      chips_stop e = sym (chips_none base lent time pace u at.proper.size k.past mask seen after e) ∙ from_here
 
-      module _ (ch : ℕ) (chose : ch ≡ chosen mask (view_priorities true o) 64 0 64 0) (low : ch < 64) (lent' : Lent) (same : lent' ≡ lent) (r : Turned)
-          (w' j' tb' b' m' p' : List ℕ) (did : Serves (chip_turn time pace ch) ch base lent' s r w w' j j' tb tb' b b' m m' p p') (e : Step) (step : e ≡ ended_in r)
+      module _ (ch : ℕ) (chose : ch ≡ chosen mask (view_priorities true o) 64 0 64 0) (low : ch < 64) (lent' : Lent) (same : lent' ≡ lent) (r : Result Turned (Stopped Flow))
+          (w' j' tb' b' m' p' : List ℕ) (did : Serves (chip_turn time pace ch) ch base lent' s r w w' j j' tb tb' b b' m m' p p')
         where
           picked_so : ch ≡ chosen mask d.priorities 64 0 64 0
           picked_so = rw at.priorities chose
@@ -281,38 +250,38 @@ module _ {base : ℕ} {lent : Lent} {time pace : ℕ} {o : List ℕ} {d : Device
           did_so : turned_to r (around d b' p') w' j' tb' m' ≡ go base lent (chip_turn time pace ch) (turning d s w j tb b m p)
           did_so = rw same at (did.does d)
 
-          pub chips_refused : {n : Refusal} {g : Flow} → e ≡ Err (record { why = n; at = g }) → came_to e (around d b' p') w' j' tb' m' ≡ whole
-          unfolding came_to
-          chips_refused {n} {g} z =
-              rw z
-              (sym (chips-off base lent time pace u at.proper.size k.past mask seen (left - 1) ch picked_so low (refusal_number n) (turning d g w' j' tb' b' m' p')
-              (sym did_so ∙ turned_off (around d b' p') w' j' tb' m' r n g (sym step ∙ z)))
-              ∙ from_here)
+          pub chips_refused : {stopped : Stopped Flow} → r ≡ Err stopped → came_to (Err stopped) (around d b' p') w' j' tb' m' ≡ whole
+          unfolding came_to turned_to
+          chips_refused {stopped} z =
+              sym (chips-off base lent time pace u at.proper.size k.past mask seen after ch picked_so low (refusal_number stopped.why) (turning d stopped.at w' j' tb' b' m' p')
+              (sym (rw z at did_so)))
+              ∙ from_here
 
-          module _ (g : Flow) (going : e ≡ Ok g) (went : Bool) (answer : went ≡ answered_in r) (k' : Kept) (minor major : ℕ) (one : minor ≡ minor_link tb ch)
-              (other : major ≡ major_link tb ch) (renewed : Renews ch minor major time went k k' tb' b' p')
+          module _ (x : Turned) (going : r ≡ Ok x) (k' : Kept) (minor major : ℕ) (one : minor ≡ minor_link tb ch)
+              (other : major ≡ major_link tb ch) (renewed : Renews ch minor major time x.went k k' tb' b' p')
             where
-              renewed_so : Renews ch (minor_link tb ch) (major_link tb ch) time went k k' tb' b' p'
+              renewed_so : Renews ch (minor_link tb ch) (major_link tb ch) time x.went k k' tb' b' p'
               renewed_so =
-                  subst (λ (x : ℕ). Renews ch x (major_link tb ch) time went k k' tb' b' p') one (subst (λ (x : ℕ). Renews ch minor x time went k k' tb' b' p') other renewed)
+                  subst (λ (y : ℕ). Renews ch y (major_link tb ch) time x.went k k' tb' b' p') one (subst (λ (y : ℕ). Renews ch minor y time x.went k k' tb' b' p') other renewed)
 
-              made : go base lent (chip_turn time pace ch) (turning d s w j tb b m p) ≡ ok went (turning d g w' j' tb' b' m' p')
-              made = sym did_so ∙ turned_on (around d b' p') w' j' tb' m' r g (sym step ∙ going) ∙ ap (λ (x : Bool). ok x (turning d g w' j' tb' b' m' p')) (sym answer)
+              made : go base lent (chip_turn time pace ch) (turning d s w j tb b m p) ≡ ok x.went (turning d x.flow w' j' tb' b' m' p')
+              unfolding turned_to
+              made = sym (rw going at did_so)
 
               starts-same : (c : ℕ) → (ch ≡ c → ⊥) → (minor_link tb ch ≡ c → ⊥) → (major_link tb ch ≡ c → ⊥) → start_in tb' c ≡ start_in tb c
               unfolding start_in
-              starts-same c x y z =
+              starts-same c own y z =
                   ap (λ (n : ℕ). has n START)
                   (subst (IfAnswered (λ _ v. Flags c (number (part tb (32 * c + 0x1F) 1)) v)) made
-                  (turn_spares {base = base} {lent = lent} time pace ch c low u at.proper (record { not_own = λ i. x (sym i); not_minor = λ i. y (sym i); not_major = λ i. z (sym i) })).answered)
+                  (turn_spares {base = base} {lent = lent} time pace ch c low u at.proper (record { not_own = λ i. own (sym i); not_minor = λ i. y (sym i); not_major = λ i. z (sym i) })).answered)
 
-              pub chips_again : Stands base lent time pace o d whole k' g w' j' tb' b' m' p' (left - 1)
+              pub chips_again : Stands base lent time pace o d whole k' x.flow w' j' tb' b' m' p' after
               chips_again = record {
                 rest =
-                    ap (λ (x : ℕ). go base lent (chip_turns time pace (left - 1) x) (turning d g w' j' tb' b' m' p')) renewed.past
-                    ∙ sym (chips-on base lent time pace u at.proper.size k.past mask seen (left - 1) ch picked_so low went (turning d g w' j' tb' b' m' p') made)
+                    ap (λ (y : ℕ). go base lent (chip_turns time pace after y) (turning d x.flow w' j' tb' b' m' p')) renewed.past
+                    ∙ sym (chips-on base lent time pace u at.proper.size k.past mask seen after ch picked_so low x.went (turning d x.flow w' j' tb' b' m' p') made)
                     ∙ from_here;
                 proper = subst (IfAnswered (λ _ v. Proper v.now.dev)) made (proper_kept {base = base} {lent = lent} (chip_turn time pace ch) u at.proper).answered;
-                sees = sees_again ch time went k k' tb tb' b b' p p' at.sees renewed_so starts-same did.busy did.pending;
+                sees = sees_again ch time x.went k k' tb tb' b b' p p' at.sees renewed_so starts-same did.busy did.pending;
                 priorities = at.priorities;
               }

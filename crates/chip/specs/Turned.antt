@@ -1,5 +1,5 @@
 -- What the functions of a turn promise: that they do their tree's steps, whatever the rest of the device is. Assumes nothing.
-use Rattle.std.specs.Prelude.{Bool, true, false, cond, List, ◌≡◌, ℕ, get_or, Ok, Err}
+use Rattle.std.specs.Prelude.{Bool, cond, List, ◌≡◌, ℕ, get_or, Result, Ok, Err}
 use Rattle.rules.specs.Act.{Act, done, ◌>>=◌, ◌>>◌}
 use Rattle.rules.specs.Calls.{refusal_number}
 use Rattle.rules.specs.Carry.{Out, ok, no, go, Lent}
@@ -13,24 +13,12 @@ use Rattle.act.specs.declared.Flow.{Flow}
 use Rattle.act.specs.Worlds.{Step}
 use Rattle.turns.specs.Turns.{around, turning}
 use Rattle.chip.specs.declared.Turned.{Turned}
-use Rattle.chip.specs.declared.Turned.TheVariants.{Yes, No, Off}
+use Rattle.act.specs.declared.Stopped.{Stopped}
 
 -- where a turn came to, and whether its pass answered yes
-unfoldable pub turned_to : Turned → Device → List ℕ → List ℕ → List ℕ → List ℕ → Out Bool
-turned_to (Yes c) d w j t m = ok true (world d c w j t m)
-turned_to (No c) d w j t m = ok false (world d c w j t m)
-turned_to (Off r c) d w j t m = no (refusal_number r) (world d c w j t m)
-
--- the step that it was, and its answer
-abbrev pub ended_in : Turned → Step
-ended_in (Yes c) = Ok c
-ended_in (No c) = Ok c
-ended_in (Off r c) = Err (record { why = r; at = c })
-
-abbrev pub answered_in : Turned → Bool
-answered_in (Yes c) = true
-answered_in (No c) = false
-answered_in (Off r c) = false
+unfoldable pub turned_to : Result Turned (Stopped Flow) → Device → List ℕ → List ℕ → List ℕ → List ℕ → Out Bool
+turned_to (Ok r) d w j t m = ok r.went (world d r.flow w j t m)
+turned_to (Err stopped) d w j t m = no (refusal_number stopped.why) (world d stopped.at w j t m)
 
 -- channel 35 on request: one pass, and its pace
 unfoldable pub line_turn : ℕ → ℕ → Act Bool
@@ -43,11 +31,11 @@ line_turn now pace = do
 -- w, j, tb, b, m, p are window, journal, table, busy, majors and pending
 
 -- one pass
-abbrev pub Passing : Act Bool → ℕ → Lent → Flow → Turned → List ℕ → List ℕ → List ℕ → List ℕ → List ℕ → List ℕ → List ℕ → List ℕ → Type 0
+abbrev pub Passing : Act Bool → ℕ → Lent → Flow → Result Turned (Stopped Flow) → List ℕ → List ℕ → List ℕ → List ℕ → List ℕ → List ℕ → List ℕ → List ℕ → Type 0
 Passing act base lent t r w w' j j' tb tb' m m' = (d : Device) → turned_to r d w' j' tb' m' ≡ go base lent act (world d t w j tb m)
 
 -- a turn of channel ch, or a part of one; busy times and pending counts of other channels are as they were
-pub record Serves (act : Act Bool) (ch base : ℕ) (lent : Lent) (t : Flow) (r : Turned) (w w' j j' tb tb' b b' m m' p p' : List ℕ) : Type 0 where
+pub record Serves (act : Act Bool) (ch base : ℕ) (lent : Lent) (t : Flow) (r : Result Turned (Stopped Flow)) (w w' j j' tb tb' b b' m m' p p' : List ℕ) : Type 0 where
   pub does : (d : Device) → turned_to r (around d b' p') w' j' tb' m' ≡ go base lent act (turning d t w j tb b m p)
   pub busy : (c : ℕ) → (ch ≡ c → ⊥) → get_or b' c 0 ≡ get_or b c 0
   pub pending : (c : ℕ) → (ch ≡ c → ⊥) → get_or p' c 0 ≡ get_or p c 0

@@ -12,11 +12,11 @@ ghost use Rattle.rules.specs.Words.{gain};
 ghost use Rattle.act.specs.Lent.{◌⇒◌, by};
 ghost use Rattle.chip.specs.Chosen.{chosen};
 ghost use Rattle.chip.specs.Seen.{start_in, waits_in, free_in, Marks, Sees, LooksAt, ready_in, minor_link, major_link, Renews};
-ghost use Rattle.chip.specs.Turned.{ended_in, answered_in, line_turn, Passing, Serves, Chips};
+ghost use Rattle.chip.specs.Turned.{line_turn, Passing, Serves, Chips};
 
-use act::{Flow, Step};
-use minor::Passed;
-use rules::{LINE, Refusal, START};
+use act::{Flow, Step, Stopped};
+use rules::{LINE, START};
+use turns::Clock;
 
 // ---- what is kept between turns
 
@@ -99,10 +99,8 @@ fn look(time: u64, table: &[u8; 2048], busy: &[u64; 64], pending: &[u32; 64]) ->
         free: 0,
         past: 0,
     };
-    let mut ch = 0;
-    while ch < 64 {
+    for ch in 0..64 {
         k = looked_at(k, time, table, busy, pending, ch);
-        ch += 1;
     }
     k
 }
@@ -138,34 +136,11 @@ pub fn choose(ready: u64, priorities: &[u8; 64]) -> usize
 
 // ---- a turn
 
-// How a turn ended: its pass answered yes, or no, or was refused.
+// How a turn ended: whether its pass answered yes, and where the act stands.
 #[derive(Clone, Copy)]
-pub enum Turned {
-    Yes(Flow),
-    No(Flow),
-    Off(Refusal, Flow),
-}
-
-// The step that it was.
-fn ended(r: Turned) -> Step
-    ensures { result ≡ ended_in r }
-{
-    match r {
-        Turned::Yes(f) => Step::Going(f),
-        Turned::No(f) => Step::Going(f),
-        Turned::Off(n, f) => Step::Refused(n, f),
-    }
-}
-
-// Its answer.
-fn answered(r: Turned) -> bool
-    ensures { result ≡ answered_in r }
-{
-    match r {
-        Turned::Yes(_) => true,
-        Turned::No(_) => false,
-        Turned::Off(_, _) => false,
-    }
+pub struct Turned {
+    pub went: bool,
+    pub flow: Flow,
 }
 
 // One pass.
@@ -178,25 +153,33 @@ fn by_pass(
     ch: usize,
     staging: &mut [u8],
     journal: &mut [u8],
-) -> Turned
+) -> Result<Turned, Stopped<Flow>>
     requires { ch < 64 }
     ensures { Passing (pass ch) base (by staging) t result ⇒ window ⇒ journal ⇒ table ⇒ majors }
 {
-    let Passed::Ran(s) = minor::dma_minor(t, base, window, table, majors, ch, staging, journal)
-    else {
-        return Turned::No(t);
+    let Some(s) = minor::dma_minor(t, base, window, table, majors, ch, staging, journal) else {
+        return Ok(Turned {
+            went: false,
+            flow: t,
+        });
     };
-    match s {
-        Step::Going(f) => Turned::Yes(f),
-        Step::Refused(n, f) => Turned::Off(n, f),
-    }
+    Ok(Turned {
+        went: true,
+        flow: s?,
+    })
+}
+
+// "A pass [..] answering no counts 0."
+fn moved(went: bool, bytes: u64) -> u64
+    ensures { result ≡ cond went bytes 0 }
+{
+    if went { bytes } else { 0 }
 }
 
 // "Channel 35's pace applies to its one loop, if no START led to it; a pass [..] answering no counts 0."
 fn by_line(
     t: Flow,
-    time: u64,
-    pace: u64,
+    clock: Clock,
     base: u32,
     window: &mut [u8],
     table: &mut [u8; 2048],
@@ -204,24 +187,22 @@ fn by_line(
     majors: &mut [u64; 64],
     staging: &mut [u8],
     journal: &mut [u8],
-) -> Turned
-    requires { (time ≤ 2 ^ 62) × (pace ≤ 1000000) }
-    ensures { (p : List ℕ) → (Serves (line_turn time pace) 35 base (by staging) t result ⇒ window ⇒ journal ⇒ table ⇒ busy ⇒ majors) p p }
+) -> Result<Turned, Stopped<Flow>>
+    ensures { (p : List ℕ) → (Serves (line_turn clock.now clock.pace) 35 base (by staging) t result ⇒ window ⇒ journal ⇒ table ⇒ busy ⇒ majors) p p }
 {
     let bytes = channel::nbytes_of(table, LINE);
-    let r = by_pass(t, base, window, table, majors, LINE, staging, journal);
-    match r {
-        Turned::Yes(f) => Turned::Yes(turns::paced(f, time, pace, bytes, busy)),
-        Turned::No(f) => Turned::No(turns::paced(f, time, pace, 0, busy)),
-        Turned::Off(n, f) => Turned::Off(n, f),
-    }
+    let pass = by_pass(t, base, window, table, majors, LINE, staging, journal)?;
+    let sum = moved(pass.went, bytes);
+    Ok(Turned {
+        went: pass.went,
+        flow: turns::paced(pass.flow, clock, sum, busy),
+    })
 }
 
 // "A served channel's KICK bit goes and its pending is spent as before": not by START, and not by channel 35.
 pub fn chip_turn(
     t: Flow,
-    time: u64,
-    pace: u64,
+    clock: Clock,
     base: u32,
     window: &mut [u8],
     table: &mut [u8; 2048],
@@ -231,9 +212,9 @@ pub fn chip_turn(
     ch: usize,
     staging: &mut [u8],
     journal: &mut [u8],
-) -> Turned
-    requires { (ch < 64) × (time ≤ 2 ^ 62) × (pace ≤ 1000000) }
-    ensures { Serves (chip_turn time pace ch) ch base (by staging) t result ⇒ window ⇒ journal ⇒ table ⇒ busy ⇒ majors ⇒ pending }
+) -> Result<Turned, Stopped<Flow>>
+    requires { ch < 64 }
+    ensures { Serves (chip_turn clock.now clock.pace ch) ch base (by staging) t result ⇒ window ⇒ journal ⇒ table ⇒ busy ⇒ majors ⇒ pending }
 {
     let kick = words::lose_bit(t.scalars.kick, ch);
     let mut gone = t;
@@ -243,7 +224,7 @@ pub fn chip_turn(
     }
     if ch == LINE {
         return by_line(
-            gone, time, pace, base, window, table, busy, majors, staging, journal,
+            gone, clock, base, window, table, busy, majors, staging, journal,
         );
     }
     channel::spend(pending, ch);
@@ -307,8 +288,7 @@ fn renewed(
 // "Each of at most 4,096 turns serves [..] then looks afresh."
 pub fn run_chip(
     t: Flow,
-    time: u64,
-    pace: u64,
+    clock: Clock,
     base: u32,
     window: &mut [u8],
     table: &mut [u8; 2048],
@@ -319,30 +299,33 @@ pub fn run_chip(
     staging: &mut [u8],
     journal: &mut [u8],
 ) -> Step
-    requires { (time ≤ 2 ^ 62) × (pace ≤ 1000000) }
-    ensures { Chips time pace base (by staging) priorities.now t result ⇒ window ⇒ journal ⇒ table ⇒ busy ⇒ majors ⇒ pending }
+    ensures { Chips clock.now clock.pace base (by staging) priorities.now t result ⇒ window ⇒ journal ⇒ table ⇒ busy ⇒ majors ⇒ pending }
 {
     let mut s = t;
-    let mut k = look(time, table, busy, pending);
-    let mut left: usize = 4096;
-    while 0 < left {
+    let mut k = look(clock.now, table, busy, pending);
+    for _ in 0..4096 {
         let m = ready(k, s.scalars.erq, s.scalars.standing);
         if m == 0 {
-            return Step::Going(s);
+            return Ok(s);
         }
         let ch = choose(m, priorities);
         let minor = minor_link(table, ch);
         let major = major_link(table, ch);
-        let r = chip_turn(
-            s, time, pace, base, window, table, busy, majors, pending, ch, staging, journal,
+        let turned = chip_turn(
+            s, clock, base, window, table, busy, majors, pending, ch, staging, journal,
+        )?;
+        s = turned.flow;
+        k = renewed(
+            k,
+            clock.now,
+            table,
+            busy,
+            pending,
+            ch,
+            minor,
+            major,
+            turned.went,
         );
-        let e = ended(r);
-        let Step::Going(next) = e else {
-            return e;
-        };
-        s = next;
-        k = renewed(k, time, table, busy, pending, ch, minor, major, answered(r));
-        left -= 1;
     }
-    Step::Going(s)
+    Ok(s)
 }

@@ -14,6 +14,7 @@ ghost use Rattle.engine.specs.Runs.{TakesTurns, RunsAll, Begins, EndsTurns, Carr
 use act::{Core, Done, Flow, Step};
 use acting::Reached;
 use rules::{Acted, Device, Refusal, Scalars, Verdict};
+use turns::Clock;
 
 // Refusals 5, 6 and 7, in that order.
 fn tested(time: u64, pace: u64, base: u32, window: usize, journal: usize, used: usize) -> Verdict
@@ -45,8 +46,7 @@ fn take_turns(
     again: bool,
     chip: bool,
     t: Flow,
-    time: u64,
-    pace: u64,
+    clock: Clock,
     base: u32,
     window: &mut [u8],
     table: &mut [u8; 2048],
@@ -57,19 +57,18 @@ fn take_turns(
     staging: &mut [u8],
     journal: &mut [u8],
 ) -> Step
-    requires { (time ≤ 2 ^ 62) × (pace ≤ 1000000) }
-    ensures { TakesTurns again chip priorities.now time pace base (by staging) t result ⇒ window ⇒ journal ⇒ table ⇒ busy ⇒ majors ⇒ pending }
+    ensures { TakesTurns again chip priorities.now clock.now clock.pace base (by staging) t result ⇒ window ⇒ journal ⇒ table ⇒ busy ⇒ majors ⇒ pending }
 {
     if idle(again, t.scalars.kick) {
-        return Step::Going(t);
+        return Ok(t);
     }
     if chip {
         return chip::run_chip(
-            t, time, pace, base, window, table, busy, majors, pending, priorities, staging, journal,
+            t, clock, base, window, table, busy, majors, pending, priorities, staging, journal,
         );
     }
     turns::run_dma_inner(
-        t, time, pace, base, window, table, busy, majors, pending, staging, journal,
+        t, clock, base, window, table, busy, majors, pending, staging, journal,
     )
 }
 
@@ -78,8 +77,7 @@ fn run_all(
     again: bool,
     chip: bool,
     t: Flow,
-    time: u64,
-    pace: u64,
+    clock: Clock,
     base: u32,
     window: &mut [u8],
     table: &mut [u8; 2048],
@@ -90,11 +88,10 @@ fn run_all(
     staging: &mut [u8],
     journal: &mut [u8],
 ) -> Step
-    requires { (time ≤ 2 ^ 62) × (pace ≤ 1000000) }
-    ensures { RunsAll again chip priorities.now time pace base t result ⇒ window ⇒ staging ⇒ journal ⇒ table ⇒ busy ⇒ majors ⇒ pending }
+    ensures { RunsAll again chip priorities.now clock.now clock.pace base t result ⇒ window ⇒ staging ⇒ journal ⇒ table ⇒ busy ⇒ majors ⇒ pending }
 {
     let s = take_turns(
-        again, chip, t, time, pace, base, window, table, busy, majors, pending, priorities,
+        again, chip, t, clock, base, window, table, busy, majors, pending, priorities,
         staging, journal,
     );
     let len = staging.len();
@@ -177,8 +174,7 @@ fn carried(
     again: bool,
     chip: bool,
     k: Core,
-    time: u64,
-    pace: u64,
+    clock: Clock,
     base: u32,
     window: &mut [u8],
     table: &mut [u8; 2048],
@@ -193,17 +189,16 @@ fn carried(
     journal: &mut [u8],
     used: usize,
 ) -> Done
-    requires { (time ≤ 2 ^ 62) × (pace ≤ 1000000) × (used ≤ length journal.old) × (base + length window.old ≤ 2 ^ 32) × (busy.now ≡ busy_now.old) × (majors.now ≡ majors_now.old) × (pending.now ≡ pending_now.old) }
-    ensures { (Carries again chip priorities.now time pace base k result ⇒ window ⇒ staging ⇒ journal ⇒ table ⇒ busy_now ⇒ majors_now ⇒ pending_now) used }
+    requires { (used ≤ length journal.old) × (base + length window.old ≤ 2 ^ 32) × (busy.now ≡ busy_now.old) × (majors.now ≡ majors_now.old) × (pending.now ≡ pending_now.old) }
+    ensures { (Carries again chip priorities.now clock.now clock.pace base k result ⇒ window ⇒ staging ⇒ journal ⇒ table ⇒ busy_now ⇒ majors_now ⇒ pending_now) used }
 {
     let scalars = k.scalars;
-    let t = beginning(again, scalars, time, busy_now, pending_now, used);
+    let t = beginning(again, scalars, clock.now, busy_now, pending_now, used);
     let s = run_all(
         again,
         chip,
         t,
-        time,
-        pace,
+        clock,
         base,
         window,
         table,
@@ -269,8 +264,7 @@ pub fn run_in(
         again,
         chip,
         k,
-        time,
-        pace,
+        Clock { now: time, pace },
         base,
         window,
         table,

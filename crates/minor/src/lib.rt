@@ -9,16 +9,9 @@ ghost use Rattle.unequal_sizes.specs.Stages.{Stages};
 ghost use Rattle.minor.specs.Passes.{Passes};
 ghost use Rattle.minor.specs.Stepping.{steps_of};
 
-use act::{Flow, Step};
+use act::{Flow, Step, Stopped};
 use equal_sizes::{Moved, Steps};
 use rules::Tcd;
-
-// What a pass came to: "count 0: nothing happens and the pass answers no"; or what it left.
-#[derive(Clone, Copy)]
-pub enum Passed {
-    Idle,
-    Ran(Step),
-}
 
 // "Offsets `soff` and `doff` are signed 16-bit"; the modulos are 5 bits of `attr` each.
 fn steps_of(t: Tcd) -> Steps
@@ -41,7 +34,7 @@ fn transfer(
     staging: &mut [u8],
     journal: &mut [u8],
     at: usize,
-) -> Moved
+) -> Result<Moved, Stopped<usize>>
     requires { n ≤ 2 ^ 22 }
     ensures { Stages (transfer t n) base (by staging) at result ⇒ window ⇒ journal }
 {
@@ -67,7 +60,7 @@ fn with_end(c: Flow, e: usize) -> Flow
     Flow { scalars, at: e }
 }
 
-// One minor loop.
+// One minor loop: the step that it left; or none, at "count 0: nothing happens and the pass answers no".
 pub fn dma_minor(
     c: Flow,
     base: u32,
@@ -77,23 +70,26 @@ pub fn dma_minor(
     ch: usize,
     staging: &mut [u8],
     journal: &mut [u8],
-) -> Passed
+) -> Option<Step>
     requires { ch < 64 }
     ensures { Passes (pass ch) base (by staging) c result ⇒ window ⇒ journal ⇒ table ⇒ majors }
 {
     let t = major_end::read_tcd(table, ch);
     if words::count_of(t.citer) == 0 {
-        return Passed::Idle;
+        return None;
     }
     let cr = c.scalars.cr;
     let n = sums::minor_bytes(cr, t);
     match transfer(base, window, t, n, staging, journal, c.at) {
-        Moved::Not(r, e) => Passed::Ran(Step::Refused(r, with_end(c, e))),
-        Moved::To(s, d, e) => {
-            let s1 = sums::moved_on(sums::sources(cr, t), t, s);
-            let d1 = sums::moved_on(sums::dests(cr, t), t, d);
-            let next = Step::Going(with_end(c, e));
-            Passed::Ran(major_end::dma_minor_done(
+        Err(stopped) => Some(Err(Stopped {
+            why: stopped.why,
+            at: with_end(c, stopped.at),
+        })),
+        Ok(moved) => {
+            let s1 = sums::moved_on(sums::sources(cr, t), t, moved.from);
+            let d1 = sums::moved_on(sums::dests(cr, t), t, moved.to);
+            let next = Ok(with_end(c, moved.at));
+            Some(major_end::dma_minor_done(
                 next, base, window, table, majors, ch, t, s1, d1, journal,
             ))
         }

@@ -17,10 +17,8 @@ ghost use Rattle.act.specs.Parts.{Arrays, tabled, counted, taking, ordered, Call
 ghost use Rattle.dma_read.specs.Access.{is_priority};
 ghost use Rattle.registers.specs.Asked.{past_end, past_part, Writes, Stores, Made, MadeHeard};
 
-use act::{Core, Done, Flow, Step, Walk};
+use act::{Core, Done, Flow};
 use acting::{Reached, refused};
-use closing::Noted;
-use intc::Cell;
 use rules::{Acknowledged, Acted, Device, Heard, Reading, Refusal, Verdict};
 
 // ---- addresses
@@ -65,13 +63,10 @@ fn past_part(off: u32, size: u32) -> bool
 // ---- read
 
 // 3: "no such register at that offset and size".
-fn reading(cell: Cell) -> Reading
+fn reading(cell: Option<u32>) -> Reading
     ensures { told_reading result ≡ read_unless (check (is_none (reads cell)) 3 0) (reads cell) }
 {
-    match cell {
-        Cell::Value(v) => Ok(v),
-        Cell::Nothing => Err(Refusal::Register),
-    }
+    cell.ok_or(Refusal::Register)
 }
 
 fn read_dma(d: Device, off: u32, size: u32) -> Reading
@@ -162,7 +157,7 @@ fn write_priority(
     let after = kept(chip, value);
     priorities[channel as usize] = after;
     let scalars = k.scalars;
-    let s = acting::settle(k, Step::Going(Flow { scalars, at: used }));
+    let s = acting::settle(k, Ok(Flow { scalars, at: used }));
     let core = s.core;
     let walk = s.walk;
     let numbers = closing::note_core(acting::begun(walk), k, core, journal);
@@ -207,7 +202,7 @@ fn write_dma(
     }
     let before = *table;
     let scalars = k.scalars;
-    let begun = Step::Going(Flow { scalars, at: used });
+    let begun = Ok(Flow { scalars, at: used });
     let s = dma::edma_write(begun, table, pending, off, size, value, journal);
     let r = acting::end_core(k, acting::settle(k, s), false, journal, used);
     let verdict = r.verdict;
@@ -224,7 +219,7 @@ fn stored(k: Core, e: Core, levels: bool, journal: &mut [u8], used: usize) -> Do
     ensures { Stores k e levels used result ⇒ journal }
 {
     let scalars = e.scalars;
-    let s = acting::settle(e, Step::Going(Flow { scalars, at: used }));
+    let s = acting::settle(e, Ok(Flow { scalars, at: used }));
     acting::end_core(k, s, levels, journal, used)
 }
 
@@ -244,14 +239,12 @@ fn write_controller(
     if past_part(off, size) {
         return refused(k, Refusal::Crossing, used);
     }
-    let e = intc::intc_write(k, c, off, size, value);
-    if !e.known {
+    let Some(core) = intc::intc_write(k, c, off, size, value) else {
         return refused(k, Refusal::Register, used);
-    }
+    };
     if asking::bad_journal(journal.len(), used) {
         return refused(k, Refusal::Journal, used);
     }
-    let core = e.core;
     stored(k, core, true, journal, used)
 }
 
@@ -409,7 +402,7 @@ pub fn pending_in(
     let after = before + count;
     pending[channel as usize] = after;
     let scalars = k.scalars;
-    let s = acting::settle(k, Step::Going(Flow { scalars, at: used }));
+    let s = acting::settle(k, Ok(Flow { scalars, at: used }));
     let core = s.core;
     let walk = s.walk;
     let numbers = closing::note_core(acting::begun(walk), k, core, journal);
@@ -471,10 +464,10 @@ pub fn acknowledge_in(
     let before = *taken;
     let heard = controllers::ack_irq(k, ipl, taken);
     let s = Reached {
-        walk: Walk::On(used),
+        walk: Ok(used),
         core: k,
     };
-    let counts = closing::note_taken(Noted::At(used), &before, taken, journal);
+    let counts = closing::note_taken(Some(used), &before, taken, journal);
     let r = acting::done(k, s, closing::note_end(counts, used, journal), used);
     let verdict = r.verdict;
     let Ok(()) = verdict else {

@@ -1,6 +1,6 @@
 -- A turn, by cases, as the code makes it; and turns one after another: what is left to do from where the loop stands is the whole from where it
 -- began. Assumes nothing.
-use Rattle.std.specs.Prelude.{Ok, Err}
+use Rattle.std.specs.Prelude.{Result, Ok, Err}
 use mathlib.Core.Bool.{Bool, true, false, cond}
 use mathlib.Core.List.{List}
 use mathlib.Core.Path.{◌≡◌, refl, sym, ap, ap₂, ◌∙◌}
@@ -30,27 +30,27 @@ use Rattle.act.specs.Worlds.{Step}
 use Rattle.channel.specs.Goes.{lined, Goes, Asks, Small, Sums}
 use Rattle.channel.specs.Offers.{offered_in}
 use Rattle.channel.specs.declared.Line.{Line}
-use Rattle.channel.specs.declared.Line.TheVariants.{Sum, Broken}
+use Rattle.act.specs.declared.Stopped.{Stopped}
 use Rattle.channel.proofs.Reading.{tcd_in, descriptor_read, offered_at, offered_read}
 use Rattle.turns.specs.Turns.{around, turning, Turns, Paces}
 
 -- ---- the line of channel 35
 
-module _ (base : ℕ) (lent : Lent) (now pace : ℕ) (t : Flow) (w w' j j' tb tb' b m m' : List ℕ) (l : Line)
+module _ (base : ℕ) (lent : Lent) (now pace : ℕ) (t : Flow) (w w' j j' tb tb' b m m' : List ℕ) (l : Result Line (Stopped Flow))
     (did : Sums (line_loop line_passes 0) base lent t l w w' j j' tb tb' m m')
   where
     summed : (d : Device) (p : List ℕ) → lined l (around d b p) w' j' tb' m' ≡ go base lent (line_loop line_passes 0) (turning d t w j tb b m p)
     summed d p = did.does (around d b p)
 
-    pub line_broken : (n : Refusal) (c : Flow) → l ≡ Broken n c → (d : Device) (p : List ℕ)
-        → came_to (Err (record { why = n; at = c })) (around d b p) w' j' tb' m' ≡ go base lent (serve_line now pace) (turning d t w j tb b m p)
+    pub line_broken : (stopped : Stopped Flow) → l ≡ Err stopped → (d : Device) (p : List ℕ)
+        → came_to (Err stopped) (around d b p) w' j' tb' m' ≡ go base lent (serve_line now pace) (turning d t w j tb b m p)
     unfolding serve_line came_to lined
-    line_broken n c e d p = sym (bind_no base lent (line_loop line_passes 0) _ (turning d t w j tb b m p) (sym (rw e at (summed d p))))
+    line_broken stopped e d p = sym (bind_no base lent (line_loop line_passes 0) _ (turning d t w j tb b m p) (sym (rw e at (summed d p))))
 
-    pub line_served : (n : ℕ) (c : Flow) → l ≡ Sum n c → (r : Flow) (b' : List ℕ) → Paces now pace n c r b b' → (d : Device) (p : List ℕ)
+    pub line_served : (line : Line) → l ≡ Ok line → (r : Flow) (b' : List ℕ) → Paces now pace line.sum line.flow r b b' → (d : Device) (p : List ℕ)
         → came_to (Ok r) (around d b' p) w' j' tb' m' ≡ go base lent (serve_line now pace) (turning d t w j tb b m p)
     unfolding serve_line came_to lined
-    line_served n c e r b' keeps d p =
+    line_served line e r b' keeps d p =
         sym (bind_ok base lent (line_loop line_passes 0) _ (turning d t w j tb b m p) (sym (rw e at (summed d p))) ∙ keeps.does base lent d w' j' tb' m' p)
 
 -- busy until = now + sum x pace
@@ -65,7 +65,7 @@ module _ (now pace n : ℕ) (c : Flow) (b : List ℕ) (until deadline : ℕ) (u 
     pub paces : Paces now pace n c (record { scalars = s; at = c.at }) b (set b 35 until)
     paces = record { does = paces_does; until = ap (set b 35) u }
 
-pub sum_below : {l : Line} {n : ℕ} {c : Flow} → l ≡ Sum n c → Small l → n < 2 ^ 33
+pub sum_below : {l : Result Line (Stopped Flow)} {line : Line} → l ≡ Ok line → Small l → line.sum < 2 ^ 33
 sum_below e h = rw e at h
 
 -- a busy time fits
@@ -172,13 +172,13 @@ module _ (base : ℕ) (lent : Lent) (now pace : ℕ) (whole : Device → Out (Un
     unfolding came_to turns go
     turns_out e d = let z : left ≡ 0 = omega arith in rw z at (rest d)
 
-    module _ (more : 0 < left) where
-      from : (d : Device) → go base lent (turns now pace (suc (left - 1))) (turning d t w j tb b m p) ≡ whole d
-      from d = let q : suc (left - 1) ≡ left = omega arith in rw q (rest d)
+    module _ (after : ℕ) (more : left ≡ suc after) where
+      from : (d : Device) → go base lent (turns now pace (suc after)) (turning d t w j tb b m p) ≡ whole d
+      from d = rw more at (rest d)
 
       pub turns_stop : t.scalars.kick ≡ 0 → (d : Device) → came_to (Ok t) (around d b p) w j tb m ≡ whole d
       unfolding came_to
-      turns_stop e d = sym (turns_none base lent now pace (left - 1) (turning d t w j tb b m p) e) ∙ from d
+      turns_stop e d = sym (turns_none base lent now pace after (turning d t w j tb b m p) e) ∙ from d
 
       module _ (h : t.scalars.kick ≡ 0 → ⊥) (ch : ℕ) (chosen : ch ≡ lowest t.scalars.kick) (k : Lent) (same : k ≡ lent) (r : Step) (w' j' tb' b' m' p' : List ℕ)
           (did : Turns (turn now pace ch) base k t r w w' j j' tb tb' b b' m m' p p')
@@ -186,12 +186,12 @@ module _ (base : ℕ) (lent : Lent) (now pace : ℕ) (whole : Device → Out (Un
           ran : (d : Device) → came_to r (around d b' p') w' j' tb' m' ≡ go base lent (turn now pace (lowest t.scalars.kick)) (turning d t w j tb b m p)
           ran d = rw (same, chosen) at (did d)
 
-          pub turns_refused : {n : Refusal} {g : Flow} → r ≡ Err (record { why = n; at = g }) → (d : Device) → came_to r (around d b' p') w' j' tb' m' ≡ whole d
+          pub turns_refused : {stopped : Stopped Flow} → r ≡ Err stopped → (d : Device) → came_to (Err stopped) (around d b' p') w' j' tb' m' ≡ whole d
           unfolding came_to
-          turns_refused {n} {g} e d =
-              rw e (sym (turns-off base lent now pace (left - 1) (turning d t w j tb b m p) h (refusal_number n) (turning d g w' j' tb' b' m' p') (sym (rw e at (ran d)))) ∙ from d)
+          turns_refused {stopped} e d =
+              sym (turns-off base lent now pace after (turning d t w j tb b m p) h (refusal_number stopped.why) (turning d stopped.at w' j' tb' b' m' p') (sym (rw e at (ran d)))) ∙ from d
 
-          pub turns_again : (g : Flow) → r ≡ Ok g → (d : Device) → go base lent (turns now pace (left - 1)) (turning d g w' j' tb' b' m' p') ≡ whole d
+          pub turns_again : (g : Flow) → r ≡ Ok g → (d : Device) → go base lent (turns now pace after) (turning d g w' j' tb' b' m' p') ≡ whole d
           unfolding came_to
           turns_again g e d =
-              sym (turns-on base lent now pace (left - 1) (turning d t w j tb b m p) h (turning d g w' j' tb' b' m' p') (sym (rw e at (ran d)))) ∙ from d
+              sym (turns-on base lent now pace after (turning d t w j tb b m p) h (turning d g w' j' tb' b' m' p') (sym (rw e at (ran d)))) ∙ from d

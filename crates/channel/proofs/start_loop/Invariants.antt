@@ -1,5 +1,6 @@
 -- `channel::start_loop` meets its contract. Assumes nothing.
 use Rattle.rules.specs.Run.{start_loop, start_passes}
+use Prim.Native.Nat.{◌-◌}
 use lib.ListN.{length}
 use mathlib.Core.Path.{◌≡◌}
 use Rattle.rules.specs.State.{Device}
@@ -7,14 +8,10 @@ use Rattle.rules.specs.Carry.{go, lending}
 use Rattle.act.specs.Worlds.{world}
 use Rattle.channel.proofs.start_loop.Given as goal
 
-abbrev pub invariant-loop-left : goal.invariant-loop-left
-invariant-loop-left l =
+abbrev pub invariant-loop : goal.invariant-loop
+invariant-loop l =
     (length l.window ≡ length l.initial.window)
     × (length l.staging ≡ length l.initial.staging)
     × (length l.journal ≡ length l.initial.journal)
-    × ((d : Device) → go l.base (lending (length l.initial.staging)) (start_loop l.left l.ch l.before) (world d l.f l.window l.journal l.table l.majors)
+    × ((d : Device) → go l.base (lending (length l.initial.staging)) (start_loop (start_passes - l.counter) l.ch l.before) (world d l.f l.window l.journal l.table l.majors)
     ≡ go l.base (lending (length l.initial.staging)) (start_loop start_passes l.ch l.before) (world d l.initial.f l.initial.window l.initial.journal l.initial.table l.initial.majors))
-
-abbrev pub decreases-loop-left : goal.decreases-loop-left
-decreases-loop-left l =
-    l.left

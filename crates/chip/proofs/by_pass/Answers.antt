@@ -1,12 +1,15 @@
 -- `chip::by_pass` meets its contract. Assumes nothing.
+use Rattle.act.proofs.Laws.{made_err}
 use Rattle.chip.proofs.Turning.{pass_not, pass_went, pass-off}
 use Rattle.chip.proofs.by_pass.Goals as goal
 
 pub returns-in_default : goal.returns-in_default
 returns-in_default c = pass_not c.args.base _ c.args.ch c.args.t _ _ _ _ _ _ _ _ _ c.dma_minor.ensures c.in_default.is
 
-pub returns-in-Ok : goal.returns-in-Ok
-returns-in-Ok c = pass_went c.args.base _ c.args.ch c.args.t _ _ _ _ _ _ _ _ _ c.dma_minor.ensures _ _ c.in-Ran.is c.in-Ok.is
+pub returns : goal.returns
+returns c = pass_went c.args.base _ c.args.ch c.args.t _ _ _ _ _ _ _ _ _ c.dma_minor.ensures _ _ c.in-Some.is ?
 
-pub returns-in-Err : goal.returns-in-Err
-returns-in-Err c = pass-off c.args.base _ c.args.ch c.args.t _ _ _ _ _ _ _ _ _ c.dma_minor.ensures _ _ _ c.in-Ran.is c.in-Err.is
+pub returns-in_err-flow : goal.returns-in_err-flow
+returns-in_err-flow c d =
+    rw (made_err c.from_residual.result c.from_residual.ensures)
+    (pass-off c.args.base _ c.args.ch c.args.t _ _ _ _ _ _ _ _ _ c.dma_minor.ensures _ _ c.in-Some.is ? d)

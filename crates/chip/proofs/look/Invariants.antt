@@ -1,11 +1,7 @@
 -- `chip::look` meets its contract. The loop's invariant: the channels below have been looked at. Assumes nothing.
 use mathlib.Core.Path.{◌≡◌}
-use Prim.Native.Nat.{◌-◌, ◌≤◌}
 use Rattle.chip.specs.Seen.{SeesBelow}
 use Rattle.chip.proofs.look.Given as goal
 
 abbrev pub invariant-loop-ch : goal.invariant-loop-ch
-invariant-loop-ch l = (l.ch ≤ 64) × SeesBelow l.ch l.time l.k l.table l.busy l.pending × (l.k.past ≡ 0)
-
-abbrev pub decreases-loop-ch : goal.decreases-loop-ch
-decreases-loop-ch l = 64 - l.ch
+invariant-loop-ch l = SeesBelow l.ch l.time l.k l.table l.busy l.pending × (l.k.past ≡ 0)

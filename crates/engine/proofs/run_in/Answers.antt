@@ -18,7 +18,7 @@ pub carried-r-requires : goal.carried-r-requires
 carried-r-requires c =
     let a = c.args in
     let r = right a.base _ _ a.used a.time a.pace (sym c.tested-v.ensures ∙ ap verdict_number c.in-Ok.is) in
-    (r.early, r.slow, r.within, r.below, refl, refl, refl)
+    (r.within, r.below, refl, refl, refl)
 
 pub returns-in_default-ended : goal.returns-in_default-ended
 returns-in_default-ended c x p =

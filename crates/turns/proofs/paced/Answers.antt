@@ -7,16 +7,15 @@ use Rattle.turns.proofs.paced.Goals as goal
 
 pub overflow_mul-until : goal.overflow_mul-until
 overflow_mul-until c =
-    let fits = until_fits c.args.time c.args.sum c.args.pace c.requires.0 c.requires.1 c.requires.2 in
+    let fits = until_fits c.args.clock.now c.args.sum c.args.clock.pace c.args.clock.now_bounded c.args.clock.pace_bounded c.requires in
     omega arith
 
 pub overflow_add-until : goal.overflow_add-until
 overflow_add-until c =
-    let fits = until_fits c.args.time c.args.sum c.args.pace c.requires.0 c.requires.1 c.requires.2 in
+    let fits = until_fits c.args.clock.now c.args.sum c.args.clock.pace c.args.clock.now_bounded c.args.clock.pace_bounded c.requires in
     omega arith
 
 pub returns : goal.returns
 returns c =
     let a = c.args in
-    let pre = c.requires in
-    paces a.time a.pace a.sum a.t _ _ _ refl (until_fits a.time a.sum a.pace pre.0 pre.1 pre.2) c.earlier-deadline.ensures (search rules) _ refl
+    paces a.clock.now a.clock.pace a.sum a.t _ _ _ refl (until_fits a.clock.now a.sum a.clock.pace a.clock.now_bounded a.clock.pace_bounded c.requires) ? (search rules) _ refl

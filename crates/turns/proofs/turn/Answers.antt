@@ -7,9 +7,9 @@ use Rattle.turns.proofs.turn.Goals as goal
 pub returns-then-time-busy : goal.returns-then-time-busy
 returns-then-time-busy c =
     let a = c.args in
-    turn_deferred a.base _ a.time a.pace a.ch a.t _ _ _ _ _ _ _ c.lose_bit-kick.ensures (search rules) c.if-time-busy.true _ c.gain_bit-deferred.ensures (search rules) _ refl
+    turn_deferred a.base _ a.clock.now a.clock.pace a.ch a.t _ _ _ _ _ _ _ c.lose_bit-kick.ensures (search rules) c.if-time-busy.true _ c.gain_bit-deferred.ensures (search rules) _ refl
 
 pub returns : goal.returns
 returns c =
     let a = c.args in
-    turn_served a.base _ a.time a.pace a.ch a.t _ _ _ _ _ _ _ c.lose_bit-kick.ensures (search rules) c.if-time-busy.false _ refl _ _ _ _ _ _ _ c.serve.ensures
+    turn_served a.base _ a.clock.now a.clock.pace a.ch a.t _ _ _ _ _ _ _ c.lose_bit-kick.ensures (search rules) c.if-time-busy.false _ refl _ _ _ _ _ _ _ c.serve.ensures
