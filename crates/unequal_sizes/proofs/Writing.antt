@@ -15,7 +15,6 @@ use Rattle.rules.specs.Words.{wrap32, unit_of, modulo_add}
 use Rattle.rules.specs.State.{Device}
 use Rattle.act.specs.Worlds.{walked}
 use Rattle.unequal_sizes.specs.Stages.{wrote}
-use Rattle.unequal_sizes.specs.declared.Wrote.TheVariants as Wrote
 
 -- ---- units in turn: number k of `count`
 
@@ -40,16 +39,15 @@ one_write u d got o h l = rw (div_self h, zero-mul u, add-zero d, add-zero o, mo
 
 -- ---- sizes in turn
 
-module _ (left doff dmod size d : ℕ) (got : List ℕ) (o : ℕ) (more : left ≡ 0 → ⊥) {d' : ℕ} (p : d' ≡ modulo_add d doff dmod) where
+-- `rest` of them are left after this one
+module _ (left rest doff dmod size d : ℕ) (got : List ℕ) (o : ℕ) (more : left ≡ suc rest) {d' : ℕ} (p : d' ≡ modulo_add d doff dmod) where
   abbrev after : Act ℕ
-  after = write_sizes (left - 1) doff dmod size d' got (o + size)
+  after = write_sizes rest doff dmod size d' got (o + size)
 
   -- a size that is written in units of u
   sizes_on : (u : ℕ) → u ≡ unit_of size → write_units (size / u) 0 u d got o >> after ≡ write_sizes left doff dmod size d got o
   unfolding write_sizes ◌>>◌
-  sizes_on u e =
-      let l : left ≡ suc (left - 1) = omega arith in
-      rw (ap (λ (n : ℕ). write_sizes n doff dmod size d got o) l, e, p)
+  sizes_on u e = rw (ap (λ (n : ℕ). write_sizes n doff dmod size d got o) more, e, p)
 
   pub write_bursts_on : 4 ≤ size → write_units (size / 4) 0 4 d got o >> after ≡ write_sizes left doff dmod size d got o
   unfolding unit_of
@@ -62,7 +60,7 @@ module _ (left doff dmod size d : ℕ) (got : List ℕ) (o : ℕ) (more : left �
       ap (λ (m : Act (Unit {0})). m >> after) (ap (store window d size) q ∙ sym (one_write size d got o h l)) ∙ sizes_on size (sym (min-eq_left k))
 
 pub write_sizes_end : (base : ℕ) (lent : Lent) (dev : Device) (left doff dmod size d : ℕ) (got : List ℕ) (o e : ℕ) (w j : List ℕ) {z : Out ℕ} → left ≡ 0
-    → go base lent (write_sizes left doff dmod size d got o) (world_of dev w j e) ≡ z → wrote (Wrote.To d e) dev w j ≡ z
+    → go base lent (write_sizes left doff dmod size d got o) (world_of dev w j e) ≡ z → wrote (Ok (record { to = d; at = e })) dev w j ≡ z
 unfolding write_sizes wrote go
 write_sizes_end base lent dev left doff dmod size d got o e w j h rest =
     ap (λ (n : ℕ). go base lent (write_sizes n doff dmod size d got o) (world_of dev w j e)) (sym h) ∙ rest

@@ -1,129 +1,70 @@
 // Transfers of unequal sizes: "read all first, rounding up to whole source sizes, then write only whole destination sizes". What is read stands
-// in the caller's staging. As in crate `equal_sizes` there is one loop for each unit size, with its width a constant.
+// in the caller's staging. As in crate `equal_sizes` each unit size compiles to a loop of its own, in which the width is a constant.
 // Each contract says that the function does the steps of its tree (crate `rules`, specs/Minor.antt), whatever the rest of the world is.
 #![tactic(auto)]
 
-ghost use Rattle.std.specs.Prelude.{[], ◌≡◌, ◌+◌, ◌*◌, ◌/◌, ◌^◌, ◌≤◌, ◌<◌, length, take};
-ghost use Rattle.rules.specs.Minor.{read_unit, read_units, read_sizes, write_units, write_sizes, move_unequal};
+ghost use Rattle.std.specs.Prelude.{◌≡◌, ◌+◌, ◌*◌, ◌/◌, ◌^◌, ◌≤◌, ◌<◌, length, take};
+ghost use Rattle.rules.specs.Minor.{read_unit, read_units, write_units, move_unequal};
 ghost use Rattle.act.specs.Lent.{◌⇒◌, by};
 ghost use Rattle.words.specs.Sizes.{Sized};
 ghost use Rattle.words.specs.Widths.{MemoryWidth};
 ghost use Rattle.act.specs.Worlds.{Walks};
-ghost use Rattle.unequal_sizes.specs.Stages.{Reads, ReadsTo, Writes, Stages};
+ghost use Rattle.unequal_sizes.specs.Stages.{Reads, ReadsTo, Writes, Stages, reads_of, writes_of};
 
-use act::Walk;
+mod sizes;
+
+use act::{Stopped, Walk};
 use equal_sizes::{Moved, Steps};
-use memory::Place;
 use rules::Refusal;
+use sizes::Sizes;
 
-// The address after reads; or a byte was outside the window.
+// The address after writes, and the journal's end.
 #[derive(Clone, Copy)]
-pub enum Read {
-    At(u32),
-    Outside,
+struct Written {
+    to: u32,
+    at: usize,
 }
 
-// The address after writes, and the journal's end; or why they are refused, and the journal's end there.
-#[derive(Clone, Copy)]
-pub enum Wrote {
-    To(u32, usize),
-    Not(Refusal, usize),
-}
+// ---- a unit read: it goes behind the `len` bytes that were read before. Reads that come to nothing had a byte outside the window.
 
-// ---- a unit read: it goes behind the `len` bytes that were read before
-
-fn read_unit(base: u32, window: &[u8], width: usize, a: u32, staging: &mut [u8], len: usize) -> bool
-    requires { (len + width ≤ length staging.old) × (MemoryWidth width) }
-    ensures { Reads (read_unit width a (take len staging.old)) base window.now result (take (len + width) staging.new) }
-{
-    let Place::At(i) = memory::where_is(base, window, a, width) else {
-        return false;
-    };
-    words::put_width(staging, len, width, words::get_width(window, i, width));
-    true
-}
-
-// ---- whole sizes read, from the start of staging on
-
-fn read_sizes1(
+fn read_unit<const WIDTH: usize>(
     base: u32,
     window: &[u8],
-    count: u32,
-    soff: u32,
-    smod: u32,
-    from: u32,
+    a: u32,
     staging: &mut [u8],
-) -> Read
-    requires { (smod < 32) × (count * 1 ≤ length staging.old) }
-    ensures { ReadsTo (read_sizes count soff smod 1 from []) base window.now result (take (count * 1) staging.new) }
+    len: usize,
+) -> Option<()>
+    requires { (len + WIDTH ≤ length staging.old) × (MemoryWidth WIDTH) }
+    ensures { Reads (read_unit WIDTH a (take len staging.old)) base window.now result (take (len + WIDTH) staging.new) }
 {
-    let mut s = from;
-    let mut len: usize = 0;
-    let mut left = count;
-    while left != 0 {
-        if !read_unit(base, window, 1, s, staging, len) {
-            return Read::Outside;
-        }
-        s = words::modulo_add(s, soff, smod);
-        len += 1;
-        left -= 1;
-    }
-    Read::At(s)
+    let i = memory::where_is(base, window, a, WIDTH)?;
+    words::put_width(staging, len, WIDTH, words::get_width(window, i, WIDTH));
+    Some(())
 }
 
-fn read_sizes2(
+// ---- whole sizes read, from the start of staging on; the address after them
+
+// Sizes of 1, 2 and 4 bytes, each one unit.
+fn read_units<const WIDTH: usize>(
     base: u32,
     window: &[u8],
-    count: u32,
-    soff: u32,
-    smod: u32,
-    from: u32,
+    sizes: Sizes,
     staging: &mut [u8],
-) -> Read
-    requires { (smod < 32) × (count * 2 ≤ length staging.old) }
-    ensures { ReadsTo (read_sizes count soff smod 2 from []) base window.now result (take (count * 2) staging.new) }
+) -> Option<u32>
+    requires { (MemoryWidth WIDTH) × (sizes.count * WIDTH ≤ length staging.old) }
+    ensures { ReadsTo (reads_of sizes WIDTH) base window.now result (take (sizes.count * WIDTH) staging.new) }
 {
-    let mut s = from;
+    let mut s = sizes.first;
     let mut len: usize = 0;
-    let mut left = count;
-    while left != 0 {
-        if !read_unit(base, window, 2, s, staging, len) {
-            return Read::Outside;
-        }
-        s = words::modulo_add(s, soff, smod);
-        len += 2;
-        left -= 1;
+    for _ in 0..sizes.count {
+        read_unit::<WIDTH>(base, window, s, staging, len)?;
+        s = words::modulo_add(s, sizes.off, sizes.modulo);
+        len += WIDTH;
     }
-    Read::At(s)
+    Some(s)
 }
 
-fn read_sizes4(
-    base: u32,
-    window: &[u8],
-    count: u32,
-    soff: u32,
-    smod: u32,
-    from: u32,
-    staging: &mut [u8],
-) -> Read
-    requires { (smod < 32) × (count * 4 ≤ length staging.old) }
-    ensures { ReadsTo (read_sizes count soff smod 4 from []) base window.now result (take (count * 4) staging.new) }
-{
-    let mut s = from;
-    let mut len: usize = 0;
-    let mut left = count;
-    while left != 0 {
-        if !read_unit(base, window, 4, s, staging, len) {
-            return Read::Outside;
-        }
-        s = words::modulo_add(s, soff, smod);
-        len += 4;
-        left -= 1;
-    }
-    Read::At(s)
-}
-
-// Sizes of 16 and 32 bytes, which are read in units of 4.
+// One size of 16 or 32 bytes, which is read in units of 4.
 fn read_units4(
     base: u32,
     window: &[u8],
@@ -131,180 +72,71 @@ fn read_units4(
     from: u32,
     staging: &mut [u8],
     len: usize,
-) -> bool
+) -> Option<()>
     requires { (count ≤ 8) × (len + count * 4 ≤ length staging.old) }
     ensures { Reads (read_units count 0 4 from (take len staging.old)) base window.now result (take (len + count * 4) staging.new) }
 {
-    let mut end = len;
-    let mut k: u32 = 0;
-    while k < count {
+    for k in 0..count {
         let a = equal_sizes::unit_at(from, k);
-        if !read_unit(base, window, 4, a, staging, end) {
-            return false;
-        }
-        end += 4;
-        k += 1;
+        read_unit::<4>(base, window, a, staging, len + (k * 4) as usize)?;
     }
-    true
+    Some(())
 }
 
-fn read_bursts(
-    base: u32,
-    window: &[u8],
-    size: u32,
-    count: u32,
-    soff: u32,
-    smod: u32,
-    from: u32,
-    staging: &mut [u8],
-) -> Read
-    requires { (4 ≤ size) × (size ≤ 32) × (size / 4 * 4 ≡ size) × (smod < 32) × (count * size ≤ length staging.old) }
-    ensures { ReadsTo (read_sizes count soff smod size from []) base window.now result (take (count * size) staging.new) }
+fn read_bursts(base: u32, window: &[u8], size: u32, sizes: Sizes, staging: &mut [u8]) -> Option<u32>
+    requires { (4 ≤ size) × (size ≤ 32) × (size / 4 * 4 ≡ size) × (sizes.count * size ≤ length staging.old) }
+    ensures { ReadsTo (reads_of sizes size) base window.now result (take (sizes.count * size) staging.new) }
 {
     let units = size / 4;
-    let mut s = from;
+    let mut s = sizes.first;
     let mut len: usize = 0;
-    let mut left = count;
-    while left != 0 {
-        if !read_units4(base, window, units, s, staging, len) {
-            return Read::Outside;
-        }
-        s = words::modulo_add(s, soff, smod);
+    for _ in 0..sizes.count {
+        read_units4(base, window, units, s, staging, len)?;
+        s = words::modulo_add(s, sizes.off, sizes.modulo);
         len += size as usize;
-        left -= 1;
     }
-    Read::At(s)
+    Some(s)
 }
 
-fn read_sizes(
-    base: u32,
-    window: &[u8],
-    size: u32,
-    count: u32,
-    soff: u32,
-    smod: u32,
-    from: u32,
-    staging: &mut [u8],
-) -> Read
-    requires { (Sized size) × (smod < 32) × (count * size ≤ length staging.old) }
-    ensures { ReadsTo (read_sizes count soff smod size from []) base window.now result (take (count * size) staging.new) }
+fn read_sizes(base: u32, window: &[u8], size: u32, sizes: Sizes, staging: &mut [u8]) -> Option<u32>
+    requires { (Sized size) × (sizes.count * size ≤ length staging.old) }
+    ensures { ReadsTo (reads_of sizes size) base window.now result (take (sizes.count * size) staging.new) }
 {
     match size {
-        1 => read_sizes1(base, window, count, soff, smod, from, staging),
-        2 => read_sizes2(base, window, count, soff, smod, from, staging),
-        4 => read_sizes4(base, window, count, soff, smod, from, staging),
-        _ => read_bursts(base, window, size, count, soff, smod, from, staging),
+        1 => read_units::<1>(base, window, sizes, staging),
+        2 => read_units::<2>(base, window, sizes, staging),
+        4 => read_units::<4>(base, window, sizes, staging),
+        _ => read_bursts(base, window, size, sizes, staging),
     }
 }
 
-// ---- what was read, written: `count` whole sizes
+// ---- what was read, written as whole sizes
 
-fn write_sizes1(
+// Sizes of 1, 2 and 4 bytes, each one unit.
+fn write_units<const WIDTH: usize>(
     base: u32,
     window: &mut [u8],
-    count: u32,
-    doff: u32,
-    dmod: u32,
-    to: u32,
+    sizes: Sizes,
     staging: &[u8],
     journal: &mut [u8],
     at: usize,
-) -> Wrote
-    requires { (dmod < 32) × (count * 1 ≤ length staging.now) }
-    ensures { Writes (write_sizes count doff dmod 1 to staging.now 0) base at result ⇒ window ⇒ journal }
+) -> Result<Written, Stopped<usize>>
+    requires { (MemoryWidth WIDTH) × (sizes.count * WIDTH ≤ length staging.now) }
+    ensures { Writes (writes_of sizes WIDTH staging.now) base at result ⇒ window ⇒ journal }
 {
-    let mut d = to;
+    let mut d = sizes.first;
     let mut pos: usize = 0;
-    let mut end = at;
-    let mut left = count;
-    while left != 0 {
-        let v = words::get1(staging, pos);
-        match equal_sizes::store(base, window, d, 1, v as u64, journal, end) {
-            Walk::On(next) => {
-                end = next;
-            }
-            Walk::Off(n, e) => {
-                return Wrote::Not(n, e);
-            }
-        }
-        d = words::modulo_add(d, doff, dmod);
-        pos += 1;
-        left -= 1;
+    let mut journal_end = at;
+    for _ in 0..sizes.count {
+        let v = words::get_width(staging, pos, WIDTH);
+        journal_end = equal_sizes::store(base, window, d, WIDTH, v, journal, journal_end)?;
+        d = words::modulo_add(d, sizes.off, sizes.modulo);
+        pos += WIDTH;
     }
-    Wrote::To(d, end)
+    Ok(Written { to: d, at: journal_end })
 }
 
-fn write_sizes2(
-    base: u32,
-    window: &mut [u8],
-    count: u32,
-    doff: u32,
-    dmod: u32,
-    to: u32,
-    staging: &[u8],
-    journal: &mut [u8],
-    at: usize,
-) -> Wrote
-    requires { (dmod < 32) × (count * 2 ≤ length staging.now) }
-    ensures { Writes (write_sizes count doff dmod 2 to staging.now 0) base at result ⇒ window ⇒ journal }
-{
-    let mut d = to;
-    let mut pos: usize = 0;
-    let mut end = at;
-    let mut left = count;
-    while left != 0 {
-        let v = words::get2(staging, pos);
-        match equal_sizes::store(base, window, d, 2, v as u64, journal, end) {
-            Walk::On(next) => {
-                end = next;
-            }
-            Walk::Off(n, e) => {
-                return Wrote::Not(n, e);
-            }
-        }
-        d = words::modulo_add(d, doff, dmod);
-        pos += 2;
-        left -= 1;
-    }
-    Wrote::To(d, end)
-}
-
-fn write_sizes4(
-    base: u32,
-    window: &mut [u8],
-    count: u32,
-    doff: u32,
-    dmod: u32,
-    to: u32,
-    staging: &[u8],
-    journal: &mut [u8],
-    at: usize,
-) -> Wrote
-    requires { (dmod < 32) × (count * 4 ≤ length staging.now) }
-    ensures { Writes (write_sizes count doff dmod 4 to staging.now 0) base at result ⇒ window ⇒ journal }
-{
-    let mut d = to;
-    let mut pos: usize = 0;
-    let mut end = at;
-    let mut left = count;
-    while left != 0 {
-        let v = words::get4(staging, pos);
-        match equal_sizes::store(base, window, d, 4, v as u64, journal, end) {
-            Walk::On(next) => {
-                end = next;
-            }
-            Walk::Off(n, e) => {
-                return Wrote::Not(n, e);
-            }
-        }
-        d = words::modulo_add(d, doff, dmod);
-        pos += 4;
-        left -= 1;
-    }
-    Wrote::To(d, end)
-}
-
-// Sizes of 16 and 32 bytes, which are written in units of 4.
+// One size of 16 or 32 bytes, which is written in units of 4.
 fn write_units4(
     base: u32,
     window: &mut [u8],
@@ -318,82 +150,56 @@ fn write_units4(
     requires { (count ≤ 8) × (pos + count * 4 ≤ length staging.now) }
     ensures { Walks (write_units count 0 4 to staging.now pos) base at result ⇒ window ⇒ journal }
 {
-    let mut end = at;
-    let mut k: u32 = 0;
-    while k < count {
+    let mut journal_end = at;
+    for k in 0..count {
         let b = equal_sizes::unit_at(to, k);
-        let v = words::get4(staging, pos + (k * 4) as usize);
-        match equal_sizes::store(base, window, b, 4, v as u64, journal, end) {
-            Walk::On(next) => {
-                end = next;
-            }
-            Walk::Off(n, e) => {
-                return Walk::Off(n, e);
-            }
-        }
-        k += 1;
+        let v = words::get_width(staging, pos + (k * 4) as usize, 4);
+        journal_end = equal_sizes::store(base, window, b, 4, v, journal, journal_end)?;
     }
-    Walk::On(end)
+    Ok(journal_end)
 }
 
 fn write_bursts(
     base: u32,
     window: &mut [u8],
     size: u32,
-    count: u32,
-    doff: u32,
-    dmod: u32,
-    to: u32,
+    sizes: Sizes,
     staging: &[u8],
     journal: &mut [u8],
     at: usize,
-) -> Wrote
-    requires { (4 ≤ size) × (size ≤ 32) × (size / 4 * 4 ≡ size) × (dmod < 32) × (count * size ≤ length staging.now) }
-    ensures { Writes (write_sizes count doff dmod size to staging.now 0) base at result ⇒ window ⇒ journal }
+) -> Result<Written, Stopped<usize>>
+    requires { (4 ≤ size) × (size ≤ 32) × (size / 4 * 4 ≡ size) × (sizes.count * size ≤ length staging.now) }
+    ensures { Writes (writes_of sizes size staging.now) base at result ⇒ window ⇒ journal }
 {
     let units = size / 4;
-    let mut d = to;
+    let mut d = sizes.first;
     let mut pos: usize = 0;
-    let mut end = at;
-    let mut left = count;
-    while left != 0 {
-        match write_units4(base, window, units, d, staging, pos, journal, end) {
-            Walk::On(next) => {
-                end = next;
-            }
-            Walk::Off(n, e) => {
-                return Wrote::Not(n, e);
-            }
-        }
-        d = words::modulo_add(d, doff, dmod);
+    let mut journal_end = at;
+    for _ in 0..sizes.count {
+        journal_end = write_units4(base, window, units, d, staging, pos, journal, journal_end)?;
+        d = words::modulo_add(d, sizes.off, sizes.modulo);
         pos += size as usize;
-        left -= 1;
     }
-    Wrote::To(d, end)
+    Ok(Written { to: d, at: journal_end })
 }
 
 fn write_sizes(
     base: u32,
     window: &mut [u8],
     size: u32,
-    count: u32,
-    doff: u32,
-    dmod: u32,
-    to: u32,
+    sizes: Sizes,
     staging: &[u8],
     journal: &mut [u8],
     at: usize,
-) -> Wrote
-    requires { (Sized size) × (dmod < 32) × (count * size ≤ length staging.now) }
-    ensures { Writes (write_sizes count doff dmod size to staging.now 0) base at result ⇒ window ⇒ journal }
+) -> Result<Written, Stopped<usize>>
+    requires { (Sized size) × (sizes.count * size ≤ length staging.now) }
+    ensures { Writes (writes_of sizes size staging.now) base at result ⇒ window ⇒ journal }
 {
     match size {
-        1 => write_sizes1(base, window, count, doff, dmod, to, staging, journal, at),
-        2 => write_sizes2(base, window, count, doff, dmod, to, staging, journal, at),
-        4 => write_sizes4(base, window, count, doff, dmod, to, staging, journal, at),
-        _ => write_bursts(
-            base, window, size, count, doff, dmod, to, staging, journal, at,
-        ),
+        1 => write_units::<1>(base, window, sizes, staging, journal, at),
+        2 => write_units::<2>(base, window, sizes, staging, journal, at),
+        4 => write_units::<4>(base, window, sizes, staging, journal, at),
+        _ => write_bursts(base, window, size, sizes, staging, journal, at),
     }
 }
 
@@ -411,27 +217,38 @@ pub fn move_unequal(
     staging: &mut [u8],
     journal: &mut [u8],
     at: usize,
-) -> Moved
+) -> Result<Moved, Stopped<usize>>
     requires { (Sized ssize) × (Sized dsize) × (step.smod < 32) × (step.dmod < 32) × (reads * ssize < 2 ^ 32) }
     ensures { Stages (move_unequal reads step.soff step.smod step.doff step.dmod ssize dsize from to) base (by staging) at result ⇒ window ⇒ journal }
 {
     let total = reads * ssize;
     let all = total as usize;
     if staging.len() < all {
-        return Moved::Not(Refusal::Staging, at);
+        return Err(Stopped {
+            why: Refusal::Staging,
+            at,
+        });
     }
-    let soff = step.soff;
-    let smod = step.smod;
-    let r = read_sizes(base, window, ssize, reads, soff, smod, from, staging);
-    let Read::At(s) = r else {
-        return Moved::Not(Refusal::Outside, at);
+    let sources = Sizes {
+        count: reads,
+        first: from,
+        off: step.soff,
+        modulo: step.smod,
     };
-    let count = total / dsize;
-    let got = &staging[..all];
-    let doff = step.doff;
-    let dmod = step.dmod;
-    match write_sizes(base, window, dsize, count, doff, dmod, to, got, journal, at) {
-        Wrote::To(d, e) => Moved::To(s, d, e),
-        Wrote::Not(n, e) => Moved::Not(n, e),
-    }
+    let targets = Sizes {
+        count: total / dsize,
+        first: to,
+        off: step.doff,
+        modulo: step.dmod,
+    };
+    let s = read_sizes(base, window, ssize, sources, staging).ok_or(Stopped {
+        why: Refusal::Outside,
+        at,
+    })?;
+    let written = write_sizes(base, window, dsize, targets, &staging[..all], journal, at)?;
+    Ok(Moved {
+        from: s,
+        to: written.to,
+        at: written.at,
+    })
 }

@@ -1,28 +1,19 @@
 -- `unequal_sizes::read_sizes` meets its contract, by the size. Assumes nothing.
+use Rattle.std.proofs.Common.{arith}
 use Rattle.equal_sizes.proofs.Laws.{bursting}
 use Rattle.unequal_sizes.proofs.Unequal.{whole-units}
 use Rattle.unequal_sizes.proofs.read_sizes.Goals as goal
 
-pub read_sizes1-requires : goal.read_sizes1-requires
-read_sizes1-requires c = (c.requires.1, rw c.in-1.is at c.requires.2)
-
-pub read_sizes2-requires : goal.read_sizes2-requires
-read_sizes2-requires c = (c.requires.1, rw c.in-2.is at c.requires.2)
-
-pub read_sizes4-requires : goal.read_sizes4-requires
-read_sizes4-requires c = (c.requires.1, rw c.in-4.is at c.requires.2)
-
 pub read_bursts-requires : goal.read_bursts-requires
 read_bursts-requires c =
     let p = c.requires in
-    let others = c.in_default.in_default-own.rest in
-    (bursting _ p.0 others.0.0.1 others.0.1 others.1, p.0.most, whole-units _ p.0 others.0.0.1 others.0.1, p.1, p.2)
+    (bursting c.args.size p.0 (omega arith) (omega arith) (omega arith), p.0.most, whole-units c.args.size p.0 (omega arith) (omega arith), p.1)
 
 pub returns-in-1 : goal.returns-in-1
-returns-in-1 c = rw c.in-1.is c.read_sizes1.ensures
+returns-in-1 c = rw c.in-1.is c.read_units.ensures
 
 pub returns-in-2 : goal.returns-in-2
-returns-in-2 c = rw c.in-2.is c.read_sizes2.ensures
+returns-in-2 c = rw c.in-2.is c.read_units-in-2.ensures
 
 pub returns-in-4 : goal.returns-in-4
-returns-in-4 c = rw c.in-4.is c.read_sizes4.ensures
+returns-in-4 c = rw c.in-4.is c.read_units-in-4.ensures
