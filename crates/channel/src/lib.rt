@@ -15,6 +15,13 @@ ghost use Rattle.channel.specs.Goes.{Goes, Asks, Sums};
 use act::{Flow, Step, Stopped};
 use rules::{DONE, LINE, Refusal};
 
+// How many passes there are at most: by START, on the line of channel 35, and by request.
+const START_PASSES: u32 = 0x8000;
+
+const LINE_PASSES: u32 = 0x400001;
+
+const REQUEST_PASSES: u32 = 1048577;
+
 // ---- requests
 
 // "A channel requests if its standing bit is set or its pending count is above 0"; it is offered if its ERQ bit is set too.
@@ -73,7 +80,7 @@ pub fn start_loop(
     ensures { Goes (start_loop start_passes ch before) base (by staging) c result ⇒ window ⇒ journal ⇒ table ⇒ majors }
 {
     let mut f = c;
-    for _ in 0..0x8000 {
+    for _ in 0..START_PASSES {
         let Some(s) = minor::dma_minor(f, base, window, table, majors, ch, staging, journal) else {
             return Ok(f);
         };
@@ -107,7 +114,7 @@ pub fn line_loop(
 {
     let mut f = c;
     let mut sum: u64 = 0;
-    for _ in 0..0x400001 {
+    for _ in 0..LINE_PASSES {
         let bytes = nbytes_of(table, LINE);
         let r = minor::dma_minor(f, base, window, table, majors, LINE, staging, journal);
         let csr = csr_of(table, LINE);
@@ -146,7 +153,7 @@ pub fn request_loop(
     ensures { Asks (request_loop request_passes ch) base (by staging) c result ⇒ window ⇒ journal ⇒ table ⇒ majors ⇒ pending }
 {
     let mut f = c;
-    for _ in 0..1048577 {
+    for _ in 0..REQUEST_PASSES {
         if !offered(f.scalars.erq, f.scalars.standing, pending, ch) {
             return Ok(f);
         }

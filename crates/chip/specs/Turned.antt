@@ -1,5 +1,5 @@
 -- What the functions of a turn promise: that they do their tree's steps, whatever the rest of the device is. Assumes nothing.
-use Rattle.std.specs.Prelude.{Bool, cond, List, ◌≡◌, ℕ, get_or, Result, Ok, Err}
+use Rattle.std.specs.Prelude.{Bool, true, cond, List, ◌≡◌, ℕ, get_or, Result, Ok, Err}
 use Rattle.rules.specs.Act.{Act, done, ◌>>=◌, ◌>>◌}
 use Rattle.rules.specs.Calls.{refusal_number}
 use Rattle.rules.specs.Carry.{Out, ok, no, go, Lent}

@@ -16,7 +16,7 @@ ghost use Rattle.chip.specs.Turned.{line_turn, Passing, Serves, Chips};
 
 use act::{Flow, Step, Stopped};
 use rules::{LINE, START};
-use turns::Clock;
+use turns::{Clock, TURNS};
 
 // ---- what is kept between turns
 
@@ -303,7 +303,7 @@ pub fn run_chip(
 {
     let mut s = t;
     let mut k = look(clock.now, table, busy, pending);
-    for _ in 0..4096 {
+    for _ in 0..TURNS {
         let m = ready(k, s.scalars.erq, s.scalars.standing);
         if m == 0 {
             return Ok(s);

@@ -12,6 +12,9 @@ ghost use Rattle.turns.specs.Turns.{Turns, Paces};
 use act::{Flow, Step};
 use rules::{LINE, START};
 
+// "At most 4,096 turns".
+pub const TURNS: u32 = 4096;
+
 // ---- a turn
 
 // `now` and the pace of a run, as refusal 7 lets them through.
@@ -143,7 +146,7 @@ pub fn run_dma_inner(
     ensures { Turns (turns clock.now clock.pace run_turns) base (by staging) t result ⇒ window ⇒ journal ⇒ table ⇒ busy ⇒ majors ⇒ pending }
 {
     let mut s = t;
-    for _ in 0..4096 {
+    for _ in 0..TURNS {
         let kick = s.scalars.kick;
         if kick == 0 {
             return Ok(s);

@@ -3,7 +3,7 @@ use mathlib.Core.Path.{◌≡◌, refl, sym, ◌∙◌, ap}
 use Rattle.channel.proofs.Passing.{line_idle, line-off, line-done, line-over, line_again, line_out}
 use Rattle.rules.specs.Run.{line_passes}
 use borrow.Author.Rules.{rules}
-use Prim.Native.Nat.{ℕ, suc, ◌+◌, ◌-◌, ◌<◌}
+use Prim.Native.Nat.{ℕ, suc, ◌+◌, ◌-◌, ◌<◌, ◌≤◌}
 use native.Mathlib.Nat.{sub-zero}
 use native.Mathlib.Omega.{arith}
 use Rattle.rules.specs.Carry.{lending}
@@ -14,6 +14,10 @@ use Rattle.channel.proofs.line_loop.Goals as goal
 next : (k : ℕ) → k < 4194305 → line_passes - k ≡ suc (line_passes - (k + 1))
 unfolding line_passes
 next k h = omega arith
+
+none : (k : ℕ) → 4194305 ≤ k → line_passes - k ≤ 0
+unfolding line_passes
+none k h = omega arith
 
 pub loop-init : goal.loop-init
 unfolding line_passes
@@ -86,4 +90,4 @@ pub returns : goal.returns
 returns c =
     let a = c.args in
     let l = c.loop in
-    record { small = tt; does = line_out a.base _ _ l.f _ _ _ _ l.sum _ l.invariant.4 (search rules) }
+    record { small = tt; does = line_out a.base _ _ l.f _ _ _ _ l.sum _ l.invariant.4 (none c.loop.counter c.loop-test.false) }

@@ -2,7 +2,7 @@
 use Rattle.channel.proofs.Passing.{request_stop, request_idle, request_off, request_again, request_out}
 use Rattle.rules.specs.Run.{request_passes}
 use borrow.Author.Rules.{rules}
-use Prim.Native.Nat.{ℕ, suc, ◌+◌, ◌-◌, ◌<◌}
+use Prim.Native.Nat.{ℕ, suc, ◌+◌, ◌-◌, ◌<◌, ◌≤◌}
 use native.Mathlib.Nat.{sub-zero}
 use native.Mathlib.Omega.{arith}
 use mathlib.Core.Path.{◌≡◌, refl, ap}
@@ -14,6 +14,10 @@ use Rattle.channel.proofs.request_loop.Goals as goal
 next : (k : ℕ) → k < 1048577 → request_passes - k ≡ suc (request_passes - (k + 1))
 unfolding request_passes
 next k h = omega arith
+
+none : (k : ℕ) → 1048577 ≤ k → request_passes - k ≤ 0
+unfolding request_passes
+none k h = omega arith
 
 pub loop-init : goal.loop-init
 unfolding request_passes
@@ -48,4 +52,4 @@ pub returns : goal.returns
 returns c =
     let a = c.args in
     let l = c.loop in
-    request_out a.base _ a.ch _ l.f _ _ _ _ _ _ l.invariant.3 (search rules)
+    request_out a.base _ a.ch _ l.f _ _ _ _ _ _ l.invariant.3 (none c.loop.counter c.loop-test.false)

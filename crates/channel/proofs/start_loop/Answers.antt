@@ -2,7 +2,7 @@
 use Rattle.channel.proofs.Passing.{start_idle, start_off, start_stop, start_again, start_out}
 use Rattle.rules.specs.Run.{start_passes}
 use borrow.Author.Rules.{rules}
-use Prim.Native.Nat.{ℕ, suc, ◌+◌, ◌-◌, ◌<◌}
+use Prim.Native.Nat.{ℕ, suc, ◌+◌, ◌-◌, ◌<◌, ◌≤◌}
 use native.Mathlib.Nat.{sub-zero}
 use native.Mathlib.Omega.{arith}
 use mathlib.Core.Path.{◌≡◌, refl, ap}
@@ -14,6 +14,10 @@ use Rattle.channel.proofs.start_loop.Goals as goal
 next : (k : ℕ) → k < 32768 → start_passes - k ≡ suc (start_passes - (k + 1))
 unfolding start_passes
 next k h = omega arith
+
+none : (k : ℕ) → 32768 ≤ k → start_passes - k ≤ 0
+unfolding start_passes
+none k h = omega arith
 
 pub loop-init : goal.loop-init
 unfolding start_passes
@@ -48,4 +52,4 @@ pub returns : goal.returns
 returns c =
     let a = c.args in
     let l = c.loop in
-    start_out a.base _ a.ch a.before _ l.f _ _ _ _ _ l.invariant.3 (search rules)
+    start_out a.base _ a.ch a.before _ l.f _ _ _ _ _ l.invariant.3 (none c.loop.counter c.loop-test.false)

@@ -7,9 +7,9 @@ pub returns-in_default : goal.returns-in_default
 returns-in_default c = pass_not c.args.base _ c.args.ch c.args.t _ _ _ _ _ _ _ _ _ c.dma_minor.ensures c.in_default.is
 
 pub returns : goal.returns
-returns c = pass_went c.args.base _ c.args.ch c.args.t _ _ _ _ _ _ _ _ _ c.dma_minor.ensures _ _ c.in-Some.is ?
+returns c = pass_went c.args.base _ c.args.ch c.args.t _ _ _ _ _ _ _ _ _ c.dma_minor.ensures _ _ c.in-Some.is c.in_ok-s.was
 
-pub returns-in_err-flow : goal.returns-in_err-flow
-returns-in_err-flow c d =
+pub returns-in_err-s : goal.returns-in_err-s
+returns-in_err-s c d =
     rw (made_err c.from_residual.result c.from_residual.ensures)
-    (pass-off c.args.base _ c.args.ch c.args.t _ _ _ _ _ _ _ _ _ c.dma_minor.ensures _ _ c.in-Some.is ? d)
+    (pass-off c.args.base _ c.args.ch c.args.t _ _ _ _ _ _ _ _ _ c.dma_minor.ensures _ _ c.in-Some.is c.in_err-s.was d)

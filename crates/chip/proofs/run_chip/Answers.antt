@@ -1,7 +1,7 @@
 -- `chip::run_chip` meets its contract. The loop's invariant: what is left to do from here is the whole, and what is kept is what is there.
 -- Assumes nothing.
 use mathlib.Core.Path.{◌≡◌, refl, ap}
-use Prim.Native.Nat.{ℕ, suc, ◌+◌, ◌-◌, ◌<◌}
+use Prim.Native.Nat.{ℕ, suc, ◌+◌, ◌-◌, ◌<◌, ◌≤◌}
 use native.Mathlib.Nat.{sub-zero}
 use native.Mathlib.Omega.{arith}
 use borrow.Author.Rules.{rules}
@@ -15,6 +15,10 @@ use Rattle.chip.proofs.run_chip.Goals as goal
 next : (k : ℕ) → k < 4096 → run_turns - k ≡ suc (run_turns - (k + 1))
 unfolding run_turns
 next k h = omega arith
+
+none : (k : ℕ) → 4096 ≤ k → run_turns - k ≤ 0
+unfolding run_turns
+none k h = omega arith
 
 pub loop-init : goal.loop-init
 unfolding run_turns
@@ -50,4 +54,4 @@ loop-preserved c =
     )
 
 pub returns : goal.returns
-returns c d proper order = chips_out (c.loop.invariant.3 d proper order) (search rules)
+returns c d proper order = chips_out (c.loop.invariant.3 d proper order) (none c.loop.counter c.loop-test.false)

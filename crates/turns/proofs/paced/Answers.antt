@@ -18,4 +18,4 @@ overflow_add-until c =
 pub returns : goal.returns
 returns c =
     let a = c.args in
-    paces a.clock.now a.clock.pace a.sum a.t _ _ _ refl (until_fits a.clock.now a.sum a.clock.pace a.clock.now_bounded a.clock.pace_bounded c.requires) ? (search rules) _ refl
+    paces a.clock.now a.clock.pace a.sum a.t _ _ _ refl (until_fits a.clock.now a.sum a.clock.pace a.clock.now_bounded a.clock.pace_bounded c.requires) c.min-e.ensures (search rules) _ refl

@@ -2,7 +2,7 @@
 use Rattle.turns.proofs.Turning.{turns_stop, turns_refused, turns_again, turns_out}
 use borrow.Author.Rules.{rules}
 use mathlib.Core.Path.{◌≡◌, refl, ap}
-use Prim.Native.Nat.{ℕ, suc, ◌+◌, ◌-◌, ◌<◌}
+use Prim.Native.Nat.{ℕ, suc, ◌+◌, ◌-◌, ◌<◌, ◌≤◌}
 use native.Mathlib.Nat.{sub-zero}
 use native.Mathlib.Omega.{arith}
 use Rattle.act.proofs.Laws.{made_err}
@@ -14,6 +14,10 @@ use Rattle.turns.proofs.run_dma_inner.Goals as goal
 next : (k : ℕ) → k < 4096 → run_turns - k ≡ suc (run_turns - (k + 1))
 unfolding run_turns
 next k h = omega arith
+
+none : (k : ℕ) → 4096 ≤ k → run_turns - k ≤ 0
+unfolding run_turns
+none k h = omega arith
 
 pub loop-init : goal.loop-init
 unfolding run_turns
@@ -42,4 +46,4 @@ pub returns : goal.returns
 returns c =
     let a = c.args in
     let l = c.loop in
-    turns_out a.base _ a.clock.now a.clock.pace _ l.s _ _ _ _ _ _ _ l.invariant.3 (search rules)
+    turns_out a.base _ a.clock.now a.clock.pace _ l.s _ _ _ _ _ _ _ l.invariant.3 (none c.loop.counter c.loop-test.false)
