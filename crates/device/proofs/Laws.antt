@@ -64,10 +64,6 @@ counted-turn {l} k h p =
     next zero from xs = rw (add-zero from) refl
     next (suc n) from xs = ap (λ (r : List ℕ). from ∷ r) (ap (set (counting n (suc from) ++ 0 ∷ xs) n) (omega arith) ∙ next n (suc from) xs)
 
-pub counted_all : (k : ℕ) → k ≡ 64 → counted_to k ≡ counting 64 0
-unfolding counting
-counted_all k e = ap counted_to e
-
 -- the mode's fresh ones
 pub own_numbers : (chip : Bool) {l : List ℕ} → chip ≡ true → l ≡ counting 64 0 → view_priorities chip l ≡ cond chip (counting 64 0) (replicate 64 0)
 unfolding counting bits_of

@@ -119,7 +119,7 @@ pub fn from_list(v: &[u64]) -> Scalars
     }
 }
 
-// ---- one controller, or one of its numbers
+// ---- one controller, or one of its numbers; what stores one stays a function for each field, as Rust has no name of a field to pass
 
 pub fn controller_at(d: Device, c: usize) -> Controller
     requires { c < 3 }

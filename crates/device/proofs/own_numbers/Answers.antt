@@ -9,6 +9,3 @@ loop-channel-init c = counted_none
 
 pub loop-channel-preserved : goal.loop-channel-preserved
 loop-channel-preserved c = counted-turn _ c.loop-channel-test.true c.loop-channel.invariant
-
-pub returns : goal.returns
-returns c = c.loop-channel.invariant ∙ counted_all c.loop-channel.channel (omega arith)

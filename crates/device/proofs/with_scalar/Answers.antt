@@ -6,10 +6,6 @@ use Rattle.rules.proofs.Typed.{scalars-within}
 use Rattle.device.proofs.Laws.{scalar_stored}
 use Rattle.device.proofs.with_scalar.Goals as goal
 
-pub from_list-requires : goal.from_list-requires
-from_list-requires c =
-    omega (arith, length-set c.listed-l.result c.args.n c.args.v, ap length c.listed-l.ensures)
-
 pub returns : goal.returns
 returns c =
     scalar_stored c.args.s c.from_list.result _ _ (scalars-within c.args.s c.well_formed.0) c.requires.1 c.listed-l.ensures c.from_list.ensures
