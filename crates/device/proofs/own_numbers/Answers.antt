@@ -1,7 +1,5 @@
 -- `device::own_numbers` meets its contract. The loop's invariant: the numbers before the channel's are there. Assumes nothing.
-use mathlib.Core.Path.{◌∙◌}
-use native.Mathlib.Omega.{arith}
-use Rattle.device.proofs.Laws.{counted_none, counted-turn, counted_all}
+use Rattle.device.proofs.Laws.{counted_none, counted-turn}
 use Rattle.device.proofs.own_numbers.Goals as goal
 
 pub loop-channel-init : goal.loop-channel-init

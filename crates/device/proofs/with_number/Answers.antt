@@ -1,9 +1,9 @@
 -- `device::with_number` meets its contract: what the number leads to is stored at its spot. Assumes nothing.
-use mathlib.Core.Path.{refl, ap, ◌∙◌}
+use mathlib.Core.Path.{ap, ◌∙◌}
 use borrow.Author.Tests.{ltb-true}
 use Rattle.std.specs.Prelude.{Some}
 use Rattle.rules.specs.Fields.{bits_of}
-use Rattle.device.proofs.Laws.{found_inside, found_fits, found_puts, none_puts, priority_byte}
+use Rattle.device.proofs.Laws.{found_inside, found_fits, priority_byte}
 use Rattle.device.proofs.with_number.Goals as goal
 
 pub with_scalar-e-requires : goal.with_scalar-e-requires

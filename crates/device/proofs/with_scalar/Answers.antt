@@ -1,7 +1,4 @@
 -- `device::with_scalar` meets its contract: a list of numbers within their bits stays, one of them stored. Assumes nothing.
-use mathlib.Core.Path.{ap}
-use native.Mathlib.Omega.{arith}
-use lib.ListN.{length, length-set}
 use Rattle.rules.proofs.Typed.{scalars-within}
 use Rattle.device.proofs.Laws.{scalar_stored}
 use Rattle.device.proofs.with_scalar.Goals as goal
