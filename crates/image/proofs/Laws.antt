@@ -64,11 +64,11 @@ module _ (x : List ℕ) (from : ℕ) (v : List ℕ) where
   sixes_none = rw length-map at (laid_none x from (sixes v))
 
   pub sixes_turn : (l k u : ℕ) (y z : List ℕ) → suc k ≡ l → l ≤ length v
-      → y ≡ splice x (2064 + 8 * (from + l)) (laid (drop l (sixes v))) → u ≡ get_or v k 0
-      → z ≡ splice y (2064 + 8 * (from + k)) (bytes 8 (u % 64))
+      → y ≡ splice x (2064 + 8 * (from + l)) (laid (drop l (sixes v))) → u ≡ get_or v k 0 % 64
+      → z ≡ splice y (2064 + 8 * (from + k)) (bytes 8 u)
       → z ≡ splice x (2064 + 8 * (from + k)) (laid (drop k (sixes v)))
   sixes_turn l k u y z e b p r q =
-      laid-turn x from (sixes v) l k (u % 64) y z e (omega (arith, length-map v (λ (x : ℕ). x % 64))) p (ap (λ n. n % 64) r ∙ sym (map_get (λ (x : ℕ). x % 64) v k 0)) q
+      laid-turn x from (sixes v) l k u y z e (omega (arith, length-map v (λ (x : ℕ). x % 64))) p (r ∙ sym (map_get (λ (x : ℕ). x % 64) v k 0)) q
 
 -- one list behind the other
 pub splice_next : (x : List ℕ) (at : ℕ) (ys zs : List ℕ) → splice (splice x at ys) (at + length ys) zs ≡ splice x at (ys ++ zs)

@@ -1,7 +1,5 @@
 -- `image::put_sixes` meets its contract. The loop's invariant: the numbers behind those that are left are there. Assumes nothing.
 use Rattle.image.proofs.Laws.{sixes, sixes_none, sixes_turn, laid_all}
-use Prim.Native.Nat.{◌-◌}
-use lib.ListN.{get_or}
 use mathlib.Core.Path.{refl}
 use native.Mathlib.Omega.{arith}
 use Rattle.image.proofs.put_sixes.Goals as goal
@@ -12,7 +10,7 @@ loop-k-init c = (sixes_none _ _ c.args.v.now, refl)
 pub loop-k-preserved : goal.loop-k-preserved
 loop-k-preserved c =
     let put = c.put8 in
-    (sixes_turn _ _ c.args.v.now c.loop-k.k _ (get_or c.args.v.now (c.loop-k.k - 1) 0) _ _ (omega arith) (omega arith) c.loop-k.invariant.0 refl put.ensures, omega (arith, put.auto.s))
+    (sixes_turn _ _ c.args.v.now c.loop-k.k _ _ _ _ (omega arith) (omega arith) c.loop-k.invariant.0 c.from.ensures put.ensures, omega (arith, put.auto.s))
 
 pub returns : goal.returns
 returns c = laid_all _ _ (sixes c.args.v.now) _ _ (omega arith) c.loop-k.invariant.0
