@@ -1,7 +1,5 @@
 -- The bytes that are an image, number by number: the device that stands in them is laid down as they are exactly if the settings' bytes are
 -- those of settings and no number is wider than its bits. Assumes nothing.
-use Rattle.std.specs.Ordering.{ord_max}
-use Rattle.std.proofs.Common.{nat_cmp}
 use mathlib.Core.Bool.{Bool, true, false, cond, ◌&&◌, false≢true, and_assoc, and-true}
 use mathlib.Core.List.{List, [], ◌∷◌, ◌++◌}
 use mathlib.Core.Path.{◌≡◌, refl, sym, ap, ap₂, ◌∙◌, subst}
@@ -63,10 +61,6 @@ none_above bits x =
     low q r p x e h f = subst (λ n. n < p) (rw (e, zero-mul p, zero-add r) at f) h
 
 -- the greater of two fits where both do
--- std's greater of two numbers
-pub greater : (x y : ℕ) → ord_max nat_cmp x y ≡ max x y
-greater x y = grind arith
-
 max_fits : (bits x y : ℕ) → ltb (max x y) (2 ^ bits) ≡ ltb y (2 ^ bits) && ltb x (2 ^ bits)
 max_fits bits x y =
     let p = 2 ^ bits in
@@ -242,11 +236,11 @@ module _ (bits : ℕ) (b : List ℕ) (from count : ℕ) where
   row_none = rw (sub_self count) (lt-ltb 0 (2 ^ bits) (pow_pos bits))
 
   pub row_turn : (l k most x : ℕ) {y : ℕ} → suc k ≡ l → l ≤ count → ltb most (2 ^ bits) ≡ fits_in (replicate (count - l) bits) b (from + l)
-      → x ≡ number_in 64 b (from + k) → y ≡ ord_max nat_cmp most x → ltb y (2 ^ bits) ≡ fits_in (replicate (count - k) bits) b (from + k)
+      → x ≡ number_in 64 b (from + k) → y ≡ max most x → ltb y (2 ^ bits) ≡ fits_in (replicate (count - k) bits) b (from + k)
   row_turn l k most x e h p q r =
       let more : suc (count - l) ≡ count - k = omega (arith, e) in
       let next : from + l ≡ suc (from + k) = omega (arith, e) in
-      ap (λ n. ltb n (2 ^ bits)) (r ∙ greater most x) ∙ max_fits bits most x
+      ap (λ n. ltb n (2 ^ bits)) r ∙ max_fits bits most x
       ∙ ap₂ (λ n t. ltb n (2 ^ bits) && t) q (p ∙ ap (fits_in (replicate (count - l) bits) b) next) ∙ rw (← more) (unfold fits_in in refl)
 
   pub row_all : (left most : ℕ) → left ≡ 0 → ltb most (2 ^ bits) ≡ fits_in (replicate (count - left) bits) b (from + left)

@@ -85,6 +85,28 @@ impl Held for u32 {
     }
 }
 
+impl Held for u16 {
+    ghost bits = { 16 };
+
+    ghost value = { λ x. x };
+
+    ghost values = { λ v. v };
+
+    ghost values_long = { λ v. refl };
+
+    ghost values_at = { held_at };
+
+    ghost values_set = { λ v i x. refl };
+
+    fn whole(self) -> u64 {
+        u64::from(self)
+    }
+
+    fn low(whole: u64) -> u16 {
+        (whole % 0x10000) as u16
+    }
+}
+
 impl Held for u8 {
     ghost bits = { 8 };
 
@@ -160,18 +182,11 @@ fn put_flags(image: &mut [u8], ignore_masks: bool, chip: bool)
 
 // ---- reading
 
-fn wide_at(image: &[u8], n: usize) -> u64
+fn number_at<T: Held>(image: &[u8], n: usize) -> T
     requires { 2072 + 8 * n ≤ length image.now }
-    ensures { result ≡ number_in 64 image.now n }
+    ensures { T.value result ≡ number_in T.bits image.now n }
 {
-    words::get8(image, 2064 + 8 * n)
-}
-
-fn half_at(image: &[u8], n: usize) -> u16
-    requires { 2072 + 8 * n ≤ length image.now }
-    ensures { result ≡ number_in 16 image.now n }
-{
-    (words::get8(image, 2064 + 8 * n) % 0x10000) as u16
+    T::low(words::get8(image, 2064 + 8 * n))
 }
 
 fn get_row<T: Held>(image: &[u8], from: usize, into: &mut [T])
@@ -179,7 +194,7 @@ fn get_row<T: Held>(image: &[u8], from: usize, into: &mut [T])
     ensures { T.values into.new ≡ numbers_in T.bits image.now from (length into.old) }
 {
     for k in (0..into.len()).rev() {
-        into[k] = T::low(words::get8(image, 2064 + 8 * (from + k)));
+        into[k] = number_at(image, from + k);
     }
 }
 
@@ -302,11 +317,11 @@ fn get_controller(image: &[u8], c: usize) -> Controller
     let mut levels = [0u8; 64];
     get_row(image, 256 + 64 * c, &mut levels);
     Controller {
-        masks: wide_at(image, 16 + 4 * c),
-        forced: wide_at(image, 17 + 4 * c),
-        lines: wide_at(image, 18 + 4 * c),
+        masks: number_at(image, 16 + 4 * c),
+        forced: number_at(image, 17 + 4 * c),
+        lines: number_at(image, 18 + 4 * c),
         levels,
-        config: half_at(image, 19 + 4 * c),
+        config: number_at(image, 19 + 4 * c),
     }
 }
 
@@ -355,9 +370,9 @@ fn fits(image: &[u8], from: usize, count: usize, bits: usize) -> bool
     requires { (2064 + 8 * (from + count) ≤ length image.now) × (bits < 64) }
     ensures { result ≡ fits_in (replicate count bits) image.now from }
 {
-    let mut most = 0;
+    let mut most = 0u64;
     for k in (0..count).rev() {
-        most = most.max(wide_at(image, from + k));
+        most = most.max(number_at(image, from + k));
     }
     most >> bits == 0
 }

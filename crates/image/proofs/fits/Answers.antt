@@ -10,7 +10,7 @@ pub loop-k-preserved : goal.loop-k-preserved
 loop-k-preserved c =
     let a = c.args in
     let l = c.loop-k in
-    row_turn a.bits a.image.now a.from a.count l.k _ l.most _ (omega arith) (omega arith) l.invariant c.wide_at.ensures c.max-most.ensures
+    row_turn a.bits a.image.now a.from a.count l.k _ l.most _ (omega arith) (omega arith) l.invariant c.number_at.ensures c.max-most.ensures
 
 pub returns : goal.returns
 returns c =
