@@ -4,16 +4,16 @@ use mathlib.Core.List.{List, [], ◌∷◌, ◌++◌}
 use mathlib.Core.Option.{Option, none, some}
 use mathlib.Core.Path.{◌≡◌, refl, sym, ap, ap₂, ◌∙◌, subst}
 use Prim.Native.Nat.{ℕ, zero, suc, ◌+◌, ◌-◌, ◌%◌, ◌^◌, ◌≤◌, ◌<◌}
-use native.Mathlib.Nat.{zero-add, add-zero, add-suc, suc-add, mod-eq_of_lt, le_trans, lt_of_lt_of_le}
+use native.Mathlib.Nat.{zero-add, add-zero, add-suc, suc-add, mod-eq_of_lt, lt_of_lt_of_le}
 use native.Mathlib.Omega.{arith}
 use borrow.Author.Tests.{ltb-true, leb-true}
-use lib.Dec.{leb, ltb, lit≤}
+use lib.Dec.{leb, ltb}
 use lib.ListN.{get_or, set, length, replicate}
 use lib.Pow.{pow_mono}
 use Rattle.rules.specs.Act.{Field, SCALAR, MASKS, FORCED, LINES, CONFIG, BUSY, MAJORS, PENDING, SOURCE, TAKEN, PRIORITY}
 use Rattle.rules.specs.Scalars.{scalar_bits, view_scalars}
 use Rattle.rules.specs.Calls.{counting}
-use Rattle.rules.specs.Fields.{bits_of, bits_in, number_of, of_controller, controller, with_field, with_some, field_at, fits_some}
+use Rattle.rules.specs.Fields.{bits_of, bits_in, number_of, controller, with_field, with_some, field_at, fits_some}
 use Rattle.rules.specs.State.{Device}
 use Rattle.rules.specs.View.{view_priorities, view}
 use Rattle.rules.specs.With.{with_priorities}
@@ -26,8 +26,10 @@ use Rattle.rules.proofs.ScalarLaws.{scalar_bits_lem}
 use Rattle.rules.proofs.Told.{prioritized}
 use Rattle.rules.proofs.ViewLaws.{map_set}
 use Rattle.device.specs.declared.Spot.{Spot}
-use Rattle.device.specs.declared.Spot.TheVariants.{Priority}
-use Rattle.device.specs.Spots.{low, cut, Fits, Found, field_in, Inside, bits_some, bits_at}
+use Rattle.std.specs.Prelude.{Option as Maybe, Some, None}
+use Rattle.std.specs.Option.{unwrap_or}
+use Rattle.std.proofs.lemmas.Option.{none-some, same_Some}
+use Rattle.device.specs.Spots.{low, cut, Fits, Found, field_of, Inside, bits_some, bits_at, bits_found}
 
 -- ---- a controller
 
@@ -44,25 +46,24 @@ controller_fits d s c h = record {
 
 -- ---- priorities
 
--- the channels' numbers from `left` on, zeros before them
+-- the numbers of the first k channels, zeros behind them
 abbrev pub counted_to : ℕ → List ℕ
-counted_to left = replicate left 0 ++ counting (64 - left) left
+counted_to k = counting k 0 ++ replicate (64 - k) 0
 
-pub counted_none : replicate 64 0 ≡ counted_to 64
+pub counted_none : replicate 64 0 ≡ counted_to 0
 unfolding counting
 counted_none = refl
 
-pub counted-turn : {l : List ℕ} (left k : ℕ) → suc k ≡ left → left ≤ 64 → l ≡ counted_to left → set l k k ≡ counted_to k
-counted-turn {l} left k e h p =
-    let more : 64 - k ≡ suc (64 - suc k) = omega (arith, e) in
-    rw (p, ← e, more) (unfold counting in last k (counting (64 - suc k) (suc k)) k)
+pub counted-turn : {l : List ℕ} (k : ℕ) → k < 64 → l ≡ counted_to k → set l k k ≡ counted_to (k + 1)
+unfolding counting
+counted-turn {l} k h p =
+    let one : k + 1 ≡ suc k = omega arith in
+    let more : 64 - k ≡ suc (64 - suc k) = omega arith in
+    rw (one, p, more) (rw zero-add at (next k 0 (replicate (64 - suc k) 0)))
   where
-    last : (n : ℕ) (xs : List ℕ) (v : ℕ) → set (replicate (suc n) 0 ++ xs) n v ≡ replicate n 0 ++ v ∷ xs
-    last zero xs v = refl
-    last (suc n) xs v = ap (λ (r : List ℕ). 0 ∷ r) (last n xs v)
-
-pub counted_all : (left : ℕ) → left ≡ 0 → counted_to left ≡ counting 64 0
-counted_all left e = ap counted_to e
+    next : (n from : ℕ) (xs : List ℕ) → set (counting n from ++ 0 ∷ xs) n (from + n) ≡ counting (suc n) from ++ xs
+    next zero from xs = rw (add-zero from) refl
+    next (suc n) from xs = ap (λ (r : List ℕ). from ∷ r) (ap (set (counting n (suc from) ++ 0 ∷ xs) n) (omega arith) ∙ next n (suc from) xs)
 
 -- the mode's fresh ones
 pub own_numbers : (chip : Bool) {l : List ℕ} → chip ≡ true → l ≡ counting 64 0 → view_priorities chip l ≡ cond chip (counting 64 0) (replicate 64 0)
@@ -94,26 +95,56 @@ chip-alone false n ch e =
     let q : field_at false n ≡ none = at_old (omega (arith, p.number)) (omega (arith, p.number, p.real)) refl in
     absurd (let z : ◌≡◌ {A = ℕ} 0 1 = cc in omega arith)
 
--- ---- the spot s of number n in a mode, which a match found to be t
+-- one that has a number in a mode has all its bits there
+named_bits : (chip : Bool) (n : ℕ) (f : Field) → field_at chip n ≡ some f → bits_in chip f ≡ bits_of f
+named_bits chip n (SCALAR i) e = refl
+named_bits chip n (MASKS c) e = refl
+named_bits chip n (FORCED c) e = refl
+named_bits chip n (LINES c) e = refl
+named_bits chip n (CONFIG c) e = refl
+named_bits chip n (BUSY ch) e = refl
+named_bits chip n (MAJORS ch) e = refl
+named_bits chip n (PENDING ch) e = refl
+named_bits chip n (SOURCE c s) e = refl
+named_bits chip n (TAKEN i) e = refl
+named_bits chip n (PRIORITY ch) e = ap (λ b. bits_in b (PRIORITY ch)) (chip-alone chip n ch e)
 
-module _ {chip : Bool} {n : ℕ} {s t : Spot} (p : Found chip n s) (e : s ≡ t) where
-  found : Found chip n t
+-- ---- the spot of number n in a mode, which a match found to be t
+
+module _ {chip : Bool} {n : ℕ} {o : Maybe Spot} {t : Spot} (p : Found chip n o) (e : o ≡ Some t) where
+  found : Found chip n (Some t)
   found = subst (Found chip n) e p
 
   pub found_inside : Inside t
   found_inside = found.inside
 
-  pub found_fits : (v : ℕ) → fits_some chip (field_at chip n) v ≡ true → fits_some chip (field_in t) v ≡ true
-  found_fits v h = rw found.name h
+  pub found_fits : (v : ℕ) → fits_some chip (field_at chip n) v ≡ true → fits_some chip (some (field_of t)) v ≡ true
+  found_fits v h = subst (λ o. fits_some chip o v ≡ true) (sym found.name) h
 
-  pub found_bits : {x : ℕ} → x ≡ bits_some chip (field_in t) → x ≡ bits_at chip n
-  found_bits h = h ∙ ap (bits_some chip) found.name
+  pub found_bits : {x : ℕ} → x ≡ bits_of (field_of t) → Some x ≡ bits_found chip (field_at chip n)
+  found_bits h = rw (h, ← found.name, named_bits chip n (field_of t) (sym found.name)) refl
 
-  pub found_puts : (v : ℕ) (d : Device) {r : Device} → r ≡ with_some (field_in t) v d → r ≡ with_some (field_at chip n) v d
+  pub found_puts : (v : ℕ) (d : Device) {r : Device} → r ≡ with_field (field_of t) v d → r ≡ with_some (field_at chip n) v d
   found_puts v d h = h ∙ ap (λ o. with_some o v d) found.name
 
-pub priority_found : {chip : Bool} {n ch : ℕ} {s : Spot} → Found chip n s → s ≡ Priority ch → chip ≡ true
-priority_found {chip} {n} {ch} p e = chip-alone chip n ch (sym (found p e).name)
+-- and where it found none
+module _ {chip : Bool} {n : ℕ} {o : Maybe Spot} (p : Found chip n o) (e : o ≡ None) where
+  none_found : Found chip n None
+  none_found = subst (Found chip n) e p
+
+  pub none_bits : None ≡ bits_found chip (field_at chip n)
+  none_bits = rw (← none_found.name) refl
+
+  pub none_puts : (v : ℕ) (d : Device) → d ≡ with_some (field_at chip n) v d
+  none_puts v d = ap (λ o. with_some o v d) none_found.name
+
+-- a number says the same, 0 where there is none
+pub bits_number : (chip : Bool) (n : ℕ) {r : Maybe ℕ} → r ≡ bits_found chip (field_at chip n) → unwrap_or r 0 ≡ bits_at chip n
+bits_number chip n p = ap (λ r. unwrap_or r 0) p ∙ by (field_at chip n)
+  where
+    by : (o : Option Field) → unwrap_or (bits_found chip o) 0 ≡ bits_some chip o
+    by none = refl
+    by (some f) = refl
 
 -- ---- a value's bits
 
@@ -132,20 +163,6 @@ some_to_64 (SOURCE c s) = (refl, refl)
 some_to_64 (TAKEN i) = (refl, refl)
 some_to_64 (PRIORITY ch) = (refl, refl)
 
--- one that has a number in a mode has all its bits there
-named_bits : (chip : Bool) (n : ℕ) (f : Field) → field_at chip n ≡ some f → bits_in chip f ≡ bits_of f
-named_bits chip n (SCALAR i) e = refl
-named_bits chip n (MASKS c) e = refl
-named_bits chip n (FORCED c) e = refl
-named_bits chip n (LINES c) e = refl
-named_bits chip n (CONFIG c) e = refl
-named_bits chip n (BUSY ch) e = refl
-named_bits chip n (MAJORS ch) e = refl
-named_bits chip n (PENDING ch) e = refl
-named_bits chip n (SOURCE c s) e = refl
-named_bits chip n (TAKEN i) e = refl
-named_bits chip n (PRIORITY ch) e = ap (λ b. bits_in b (PRIORITY ch)) (chip-alone chip n ch e)
-
 -- a value that a field can hold in a mode has the field's bits
 pub fits_bits : (chip : Bool) (f : Field) (v : ℕ) → fits_some chip (some f) v ≡ true → v < 2 ^ bits_of f
 fits_bits chip f v h = lt_of_lt_of_le (ltb-true _ _ h) (pow_mono (bits-in-most chip f))
@@ -154,37 +171,21 @@ pub priority_byte : (chip : Bool) (ch v : ℕ) → fits_some chip (some (PRIORIT
 unfolding bits_of
 priority_byte chip ch v h = let k = fits_bits chip (PRIORITY ch) v h in omega arith
 
-pub bits_most : (chip : Bool) (n : ℕ) → bits_at chip n ≤ 64
-bits_most chip n = most (field_at chip n)
-  where
-    most : (o : Option Field) → bits_some chip o ≤ 64
-    most none = lit≤ tt
-    most (some f) = le_trans (bits-in-most chip f) (leb-true (bits_of f) 64 (some_to_64 f).1)
-
--- the code's tables
+-- the code's table
 pub listed_bits : (n : ℕ) → n < length scalar_bits → get_or scalar_bits n 0 ≡ bits_of (SCALAR n)
 unfolding bits_of
 listed_bits n h = any_default scalar_bits n 0 64 h
 
-pub own_bits_lem : (chip : Bool) (c k : ℕ) → k < 4 → get_or (64 ∷ 64 ∷ 64 ∷ 16 ∷ []) k 0 ≡ bits_in chip (of_controller k c)
-unfolding bits_of of_controller
-own_bits_lem chip c zero h = refl
-own_bits_lem chip c (suc zero) h = refl
-own_bits_lem chip c (suc (suc zero)) h = refl
-own_bits_lem chip c (suc (suc (suc zero))) h = refl
-own_bits_lem chip c (suc (suc (suc (suc k)))) h = absurd (omega arith)
-
-pub priority_bits : (ch : ℕ) {chip : Bool} → chip ≡ true → 6 ≡ bits_in chip (PRIORITY ch)
-unfolding bits_of
-priority_bits ch e = rw e refl
-
-module _ (chip : Bool) (n v : ℕ) {b : ℕ} (e : b ≡ bits_at chip n) where
-  pub fits_none : b ≡ 0 → false ≡ fits_some chip (field_at chip n) v
-  fits_none z = by (field_at chip n) refl (sym e ∙ z)
-    where
-      by : (o : Option Field) → field_at chip n ≡ o → bits_some chip o ≡ 0 → false ≡ fits_some chip o v
-      by none p q = refl
-      by (some f) p q = absurd (omega (arith, ltb-true 0 (bits_of f) (some_to_64 f).0, sym (named_bits chip n f p) ∙ q))
+-- a field that was found has some bits, and at most 64
+pub found_ranged : (chip : Bool) (n : ℕ) {b : ℕ} → Some b ≡ bits_found chip (field_at chip n) → (0 < b) × (b ≤ 64)
+found_ranged chip n {b} p = by (field_at chip n) refl p
+  where
+    by : (o : Option Field) → field_at chip n ≡ o → Some b ≡ bits_found chip o → (0 < b) × (b ≤ 64)
+    by none q e = absurd (none-some b (sym e))
+    by (some f) q e =
+        let s : b ≡ bits_of f = same_Some b _ e ∙ named_bits chip n f q in
+        let r = some_to_64 f in
+        (rw s (ltb-true 0 (bits_of f) r.0), rw s (leb-true (bits_of f) 64 r.1))
 
 -- ---- numbers cut to their bits
 

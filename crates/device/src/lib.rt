@@ -2,13 +2,14 @@
 // Each contract is an equation with a definition of crate `rules` (specs/Fields.antt, specs/Calls.antt).
 #![tactic(auto)]
 
+ghost use Rattle.std.specs.Option.{unwrap_or};
 ghost use Rattle.std.specs.Prelude.{◌≡◌, true, cond, ◌<◌, ◌≤◌, ◌^◌, length, get_or, set, replicate};
 ghost use Rattle.rules.specs.Act.{MASKS, FORCED, LINES, CONFIG, BUSY, MAJORS, PENDING, SOURCE, TAKEN, PRIORITY};
 ghost use Rattle.rules.specs.Fields.{controller, with_field, with_number, bits_of, bits_in, of_controller, field_at, fits_some};
 ghost use Rattle.rules.specs.Calls.{fresh, fresh_controller, counting};
 ghost use Rattle.rules.specs.Scalars.{scalar_bits, view_scalars};
 ghost use Rattle.rules.specs.View.{view_controller, view_priorities, view};
-ghost use Rattle.device.specs.Spots.{cut, Fits, Found, bits_at};
+ghost use Rattle.device.specs.Spots.{cut, Fits, Found, Inside, field_of, bits_at, bits_found};
 
 use rules::{Controller, Device, Scalars};
 
@@ -31,10 +32,8 @@ fn own_numbers() -> [u8; 64]
     ensures { result ≡ counting 64 0 }
 {
     let mut own = [0u8; 64];
-    let mut left: usize = 64;
-    while 0 < left {
-        left -= 1;
-        own[left] = left as u8;
+    for channel in 0..64 {
+        own[channel] = channel as u8;
     }
     own
 }
@@ -120,7 +119,7 @@ pub fn from_list(v: &[u64]) -> Scalars
     }
 }
 
-// ---- one controller, or one of its numbers
+// ---- one controller, or one of its numbers; what stores one stays a function for each field, as Rust has no name of a field to pass
 
 pub fn controller_at(d: Device, c: usize) -> Controller
     requires { c < 3 }
@@ -226,12 +225,14 @@ pub fn with_priority(d: Device, ch: usize, v: u8) -> Device
 
 // ---- by number
 
-// Where the field of a number stands: one of the scalars; of a controller, its IMR, FRC, lines or ICONFIG; an element of an array.
+// Where a field stands: one of the scalars; of a controller, its IMR, FRC, lines or ICONFIG; an element of an array.
 #[derive(Clone, Copy)]
 enum Spot {
-    Nowhere,
     Scalar(usize),
-    Own(usize, usize),
+    Masks(usize),
+    Forced(usize),
+    Lines(usize),
+    Config(usize),
     Busy(usize),
     Majors(usize),
     Pending(usize),
@@ -240,70 +241,62 @@ enum Spot {
     Priority(usize),
 }
 
+// "IMR, then FRC, lines, ICONFIG".
+#[tactic(auto, unfolding(rules::specs::Fields::of_controller))]
+fn own_spot(c: usize, k: usize) -> Spot
+    requires { (c < 3) × (k < 4) }
+    ensures { (field_of result ≡ of_controller k c) × Inside result }
+{
+    match k {
+        0 => Spot::Masks(c),
+        1 => Spot::Forced(c),
+        2 => Spot::Lines(c),
+        _ => Spot::Config(c),
+    }
+}
+
 // "16+4c IMR, then FRC, lines, ICONFIG; 64+ch busy, 128+ch majors, 192+ch pending, 256+64c+s source level, 512+v taken (v 64..255)"; and in the chip's
-// mode "768 + channel".
-fn spot_of(chip: bool, n: usize) -> Spot
+// mode "768 + channel". Other numbers have no field.
+fn spot_of(chip: bool, n: usize) -> Option<Spot>
     ensures { Found chip n result }
 {
-    if n < SCALARS {
-        return Spot::Scalar(n);
-    }
-    if n < 16 {
-        return Spot::Nowhere;
-    }
-    if n < 28 {
-        return Spot::Own((n - 16) / 4, (n - 16) % 4);
-    }
-    if n < 64 {
-        return Spot::Nowhere;
-    }
-    if n < 128 {
-        return Spot::Busy(n - 64);
-    }
-    if n < 192 {
-        return Spot::Majors(n - 128);
-    }
-    if n < 256 {
-        return Spot::Pending(n - 192);
-    }
-    if n < 448 {
-        return Spot::Source((n - 256) / 64, (n - 256) % 64);
-    }
-    if n < 576 {
-        return Spot::Nowhere;
-    }
-    if n < 768 {
-        return Spot::Taken(n - 576);
-    }
-    if 832 <= n {
-        return Spot::Nowhere;
-    }
-    if chip {
-        Spot::Priority(n - 768)
-    } else {
-        Spot::Nowhere
+    match n {
+        0..SCALARS => Some(Spot::Scalar(n)),
+        16..28 => Some(own_spot((n - 16) / 4, (n - 16) % 4)),
+        64..128 => Some(Spot::Busy(n - 64)),
+        128..192 => Some(Spot::Majors(n - 128)),
+        192..256 => Some(Spot::Pending(n - 192)),
+        256..448 => Some(Spot::Source((n - 256) / 64, (n - 256) % 64)),
+        576..768 => Some(Spot::Taken(n - 576)),
+        768..832 if chip => Some(Spot::Priority(n - 768)),
+        _ => None,
     }
 }
 
 // "ICONFIG 16; [..] others 64."
-const OWN_BITS: [u32; 4] = [64, 64, 64, 16];
-
-// How many bits the field of a number has in a mode; 0: there is no such field.
-pub fn field_bits(chip: bool, n: usize) -> u32
-    ensures { result ≡ bits_at chip n }
+#[tactic(auto, unfolding(rules::specs::Fields::bits_of), using(crate::proofs::Laws::listed_bits))]
+fn spot_bits(spot: Spot) -> u32
+    requires { Inside spot }
+    ensures { result ≡ bits_of (field_of spot) }
 {
-    let spot = spot_of(chip, n);
     match spot {
-        Spot::Nowhere => 0,
         Spot::Scalar(i) => SCALAR_BITS[i],
-        Spot::Own(_, k) => OWN_BITS[k],
-        Spot::Busy(_) => 64,
-        Spot::Majors(_) => 64,
+        Spot::Config(_) => 16,
         Spot::Pending(_) => 32,
         Spot::Source(_, _) => 8,
-        Spot::Taken(_) => 64,
         Spot::Priority(_) => 6,
+        Spot::Masks(_) | Spot::Forced(_) | Spot::Lines(_) => 64,
+        Spot::Busy(_) | Spot::Majors(_) | Spot::Taken(_) => 64,
     }
+}
+
+// How many bits the field of a number has in a mode, if there is such a field.
+pub fn field_bits(chip: bool, n: usize) -> Option<u32>
+    ensures field { result ≡ bits_found chip (field_at chip n) }
+    ensures number { unwrap_or result 0 ≡ bits_at chip n }
+{
+    let spot = spot_of(chip, n)?;
+    Some(spot_bits(spot))
 }
 
 fn with_scalar(s: Scalars, n: usize, v: u64) -> Scalars
@@ -315,33 +308,25 @@ fn with_scalar(s: Scalars, n: usize, v: u64) -> Scalars
     from_list(&l)
 }
 
-fn with_own(d: Device, c: usize, k: usize, v: u64) -> Device
-    requires { (c < 3) × (k < 4) × (v < 2 ^ bits_of (of_controller k c)) }
-    ensures { view result ≡ with_field (of_controller k c) v (view d) }
-{
-    match k {
-        0 => with_masks(d, c, v),
-        1 => with_forced(d, c, v),
-        2 => with_lines(d, c, v),
-        _ => with_config(d, c, v as u16),
-    }
-}
-
 // The device with `v` in the field of a number.
 pub fn with_number(d: Device, n: usize, v: u64) -> Device
     requires { fits_some d.chip (field_at d.chip n) v ≡ true }
     ensures { view result ≡ with_number n v (view d) }
 {
-    let spot = spot_of(d.chip, n);
+    let Some(spot) = spot_of(d.chip, n) else {
+        return d;
+    };
     match spot {
-        Spot::Nowhere => d,
         Spot::Scalar(i) => {
             let mut e = d;
             let scalars = d.scalars;
             e.scalars = with_scalar(scalars, i, v);
             e
         }
-        Spot::Own(c, k) => with_own(d, c, k, v),
+        Spot::Masks(c) => with_masks(d, c, v),
+        Spot::Forced(c) => with_forced(d, c, v),
+        Spot::Lines(c) => with_lines(d, c, v),
+        Spot::Config(c) => with_config(d, c, v as u16),
         Spot::Busy(ch) => with_busy(d, ch, v),
         Spot::Majors(ch) => with_majors(d, ch, v),
         Spot::Pending(ch) => with_pending(d, ch, v as u32),

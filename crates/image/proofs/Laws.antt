@@ -1,7 +1,7 @@
 -- The laws that the proofs of this crate cite: numbers laid down and read, place by place. Assumes nothing.
 use mathlib.Core.Bool.{Bool, true, false, cond, ◌&&◌, false≢true}
 use mathlib.Core.List.{List, [], ◌∷◌, ◌++◌, map, append-nil}
-use mathlib.Core.Path.{◌≡◌, refl, sym, ap, ap₂, ◌∙◌}
+use mathlib.Core.Path.{◌≡◌, refl, sym, ap, ap₂, subst, ◌∙◌}
 use Prim.Native.Nat.{ℕ, zero, suc, ◌+◌, ◌-◌, ◌*◌, ◌%◌, ◌^◌, ◌≤◌, ◌<◌}
 use native.Mathlib.Nat.{mod-eq_of_lt, zero-add, add-zero, add-suc, suc-add, sub-zero, sub_self, le_antisymm, not-suc-le-zero, le_of_suc-le-suc}
 use native.Mathlib.Omega.{arith}
@@ -51,6 +51,10 @@ pub laid_all : (x : List ℕ) (from : ℕ) (v : List ℕ) (left : ℕ) (y : List
     → y ≡ splice x (2064 + 8 * (from + left)) (laid (drop left v)) → y ≡ splice x (2064 + 8 * from) (laid v)
 laid_all x from v left y e p = p ∙ ap (λ n. splice x (2064 + 8 * (from + n)) (laid (drop n v))) e ∙ ap (λ n. splice x (2064 + 8 * n) (laid v)) (add-zero from)
 
+-- the same where the length is told in another way
+pub row-none : (x : List ℕ) (from : ℕ) (v : List ℕ) {n : ℕ} → length v ≡ n → x ≡ splice x (2064 + 8 * (from + n)) (laid (drop n v))
+row-none x from v long = subst (λ (m : ℕ). x ≡ splice x (2064 + 8 * (from + m)) (laid (drop m v))) long (laid_none x from v)
+
 -- the low six bits of each
 abbrev pub sixes : List ℕ → List ℕ
 sixes v = map (λ (x : ℕ). x % 64) v
@@ -60,25 +64,11 @@ module _ (x : List ℕ) (from : ℕ) (v : List ℕ) where
   sixes_none = rw length-map at (laid_none x from (sixes v))
 
   pub sixes_turn : (l k u : ℕ) (y z : List ℕ) → suc k ≡ l → l ≤ length v
-      → y ≡ splice x (2064 + 8 * (from + l)) (laid (drop l (sixes v))) → u ≡ get_or v k 0
-      → z ≡ splice y (2064 + 8 * (from + k)) (bytes 8 (u % 64))
+      → y ≡ splice x (2064 + 8 * (from + l)) (laid (drop l (sixes v))) → u ≡ get_or v k 0 % 64
+      → z ≡ splice y (2064 + 8 * (from + k)) (bytes 8 u)
       → z ≡ splice x (2064 + 8 * (from + k)) (laid (drop k (sixes v)))
   sixes_turn l k u y z e b p r q =
-      laid-turn x from (sixes v) l k (u % 64) y z e (omega (arith, length-map v (λ (x : ℕ). x % 64))) p (ap (λ n. n % 64) r ∙ sym (map_get (λ (x : ℕ). x % 64) v k 0)) q
-
--- a list laid over the first bytes
-pub over_none : (x t : List ℕ) → x ≡ splice x (length t) (drop (length t) t)
-over_none x t = rw (drop-length t) (sym (splice_nil x (length t)))
-
-pub over-turn : (x t : List ℕ) (l k : ℕ) (y : List ℕ) → suc k ≡ l → l ≤ length t
-    → y ≡ splice x l (drop l t) → set y k (get_or t k 0) ≡ splice x k (drop k t)
-over-turn x t l k y e b p =
-    let here : splice x l (drop l t) ≡ splice x (suc k) (drop (suc k) t) = ap (λ n. splice x n (drop n t)) (sym e) in
-    let more : set (splice x (suc k) (drop (suc k) t)) k (get_or t k 0) ≡ splice x k (drop k t) = rw (drop-cons t k 0 (omega (arith, e))) (unfold splice in refl) in
-    ap (λ m. set m k (get_or t k 0)) (p ∙ here) ∙ more
-
-pub over_all : (x t : List ℕ) (left : ℕ) (y : List ℕ) → left ≡ 0 → y ≡ splice x left (drop left t) → y ≡ splice x 0 t
-over_all x t left y e p = p ∙ ap (λ n. splice x n (drop n t)) e
+      laid-turn x from (sixes v) l k u y z e (omega (arith, length-map v (λ (x : ℕ). x % 64))) p (r ∙ sym (map_get (λ (x : ℕ). x % 64) v k 0)) q
 
 -- one list behind the other
 pub splice_next : (x : List ℕ) (at : ℕ) (ys zs : List ℕ) → splice (splice x at ys) (at + length ys) zs ≡ splice x at (ys ++ zs)
@@ -164,21 +154,22 @@ module _ (bits : ℕ) (b x : List ℕ) (from : ℕ) where
   numbers_all left y e p =
       p ∙ ap (λ n. splice x n (numbers_in bits b (from + n) (length x - n))) e ∙ rw (add-zero from, sub-zero (length x)) (splice_all x (numbers_in bits b from (length x)) (length_numbers bits b from (length x)))
 
--- the first bytes read
-pub part_none : (b x : List ℕ) → x ≡ splice x (length x) (part b (length x) (length x - length x))
-unfolding part
-part_none b x = rw (sub_self (length x)) (sym (splice_nil x (length x)))
+-- the same where the length is told in another way
+module _ (bits : ℕ) (b x : List ℕ) (from : ℕ) {n : ℕ} (long : length x ≡ n) where
+  pub got_none : x ≡ splice x n (numbers_in bits b (from + n) (n - n))
+  got_none = subst (λ (m : ℕ). x ≡ splice x m (numbers_in bits b (from + m) (m - m))) long (numbers_none bits b x from)
 
-pub part-turn : (b x : List ℕ) (l k : ℕ) (y : List ℕ) → suc k ≡ l → l ≤ length x
-    → y ≡ splice x l (part b l (length x - l)) → set y k (get_or b k 0) ≡ splice x k (part b k (length x - k))
-part-turn b x l k y e h p =
-    let here : splice x l (part b l (length x - l)) ≡ splice x (suc k) (part b (suc k) (length x - suc k)) = ap (λ n. splice x n (part b n (length x - n))) (sym e) in
-    let more : suc (length x - suc k) ≡ length x - k = omega (arith, e) in
-    rw (p ∙ here, ← more) (unfold part splice in refl)
+  pub got_turn : (l k v : ℕ) (y : List ℕ) → suc k ≡ l → l ≤ n
+      → y ≡ splice x l (numbers_in bits b (from + l) (n - l)) → v ≡ number_in bits b (from + k)
+      → set y k v ≡ splice x k (numbers_in bits b (from + k) (n - k))
+  got_turn l k v y e h p q =
+      subst (λ (m : ℕ). l ≤ m → y ≡ splice x l (numbers_in bits b (from + l) (m - l)) → set y k v ≡ splice x k (numbers_in bits b (from + k) (m - k))) long
+      (λ i r. numbers_turn bits b x from l k v y e i r q) h p
 
-pub part_all : (b x : List ℕ) (left : ℕ) (y : List ℕ) → left ≡ 0 → y ≡ splice x left (part b left (length x - left)) → y ≡ part b 0 (length x)
-part_all b x left y e p =
-    p ∙ ap (λ n. splice x n (part b n (length x - n))) e ∙ rw (sub-zero (length x)) (splice_all x (part b 0 (length x)) (length_part b 0 (length x)))
+  pub got_all : (left : ℕ) (y : List ℕ) → left ≡ 0 → y ≡ splice x left (numbers_in bits b (from + left) (n - left)) → y ≡ numbers_in bits b from n
+  got_all left y e p =
+      subst (λ (m : ℕ). y ≡ splice x left (numbers_in bits b (from + left) (m - left)) → y ≡ numbers_in bits b from m) long
+      (numbers_all bits b x from left y e) p
 
 -- ---- number by number
 

@@ -1,3 +1,4 @@
 pub mod Image
 pub mod Parts
 pub mod Fits
+pub mod Held

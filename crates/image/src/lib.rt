@@ -1,12 +1,13 @@
 // The image of a device: a device laid down as 8,720 bytes, and read from them. docs/ABI.md has the layout, specs/Image.antt the definition.
 #![tactic(auto)]
 
-ghost use Rattle.std.specs.Prelude.{cond, map, ◌≡◌, ℕ, ◌+◌, ◌*◌, ◌%◌, ◌≤◌, ◌<◌, max, length, get_or, replicate};
+ghost use Rattle.std.specs.Prelude.{List, cond, map, ◌≡◌, refl, ℕ, ◌+◌, ◌*◌, ◌%◌, ◌^◌, ◌≤◌, ◌<◌, length, get_or, set, replicate};
 ghost use Rattle.rules.specs.Bytes.{splice, part};
 ghost use Rattle.rules.specs.Fields.{joined, own_of};
 ghost use Rattle.rules.specs.View.{view_controller, view};
 ghost use Rattle.image.specs.Fits.{fits_in, setting_fits, scalars_fit, own_bits};
 ghost use Rattle.image.specs.Image.{laid, setting_bytes, image_of, number_in, numbers_in, controller_in, device_in, held_bits, alike, is_image};
+ghost use Rattle.image.specs.Held.{held_at};
 ghost use Rattle.image.specs.Parts.{scalars_of, channels_of, levels_of, taken_of};
 
 use rules::{Controller, Device};
@@ -14,68 +15,136 @@ use rules::{Controller, Device};
 // How long an image is.
 pub const BYTES: usize = 8720;
 
-// ---- laying down: numbers of 64, 32 and 8 bits, each in 8 bytes, from place `from` on
+// ---- numbers of 64, 32, 16 and 8 bits, each in 8 bytes, from place `from` on
 
-fn put_wides(image: &mut [u8], from: usize, v: &[u64])
-    requires { 2064 + 8 * (from + length v.now) ≤ length image.old }
-    ensures { image.new ≡ splice image.old (2064 + 8 * from) (laid v.now) }
-{
-    let mut left = v.len();
-    while 0 < left {
-        left -= 1;
-        words::put8(image, 2064 + 8 * (from + left), v[left]);
+// A number that is held in 8 bytes of an image, of which it may need fewer.
+trait Held: Copy {
+    // How many bits it has.
+    ghost bits: { ℕ };
+
+    // The number, and those of a row.
+    ghost value: { Self → ℕ };
+
+    ghost values: { List Self → List ℕ };
+
+    fn whole(self) -> u64
+        ensures { result ≡ value self };
+
+    // Its low bits.
+    fn low(whole: u64) -> Self
+        ensures { value result ≡ whole % 2 ^ bits };
+
+    ghost values_long: { (v : List Self) → length (values v) ≡ length v };
+
+    ghost values_at: { (v : List Self) (i : ℕ) (x : Self) → i < length v → x ≡ get_or v i x → value x ≡ get_or (values v) i 0 };
+
+    ghost values_set: { (v : List Self) (i : ℕ) (x : Self) → values (set v i x) ≡ set (values v) i (value x) };
+}
+
+impl Held for u64 {
+    ghost bits = { 64 };
+
+    ghost value = { λ x. x };
+
+    ghost values = { λ v. v };
+
+    ghost values_long = { λ v. refl };
+
+    ghost values_at = { held_at };
+
+    ghost values_set = { λ v i x. refl };
+
+    fn whole(self) -> u64 {
+        self
+    }
+
+    fn low(whole: u64) -> u64 {
+        whole
     }
 }
 
-fn count_of(v: &[u32], i: usize) -> u32
-    requires { i < length v.now }
-    ensures { result ≡ get_or v.now i 0 }
-{
-    v[i]
-}
+impl Held for u32 {
+    ghost bits = { 32 };
 
-fn byte_of(v: &[u8], i: usize) -> u8
-    requires { i < length v.now }
-    ensures { result ≡ get_or v.now i 0 }
-{
-    v[i]
-}
+    ghost value = { λ x. x };
 
-fn put_counts(image: &mut [u8], from: usize, v: &[u32])
-    requires { 2064 + 8 * (from + length v.now) ≤ length image.old }
-    ensures { image.new ≡ splice image.old (2064 + 8 * from) (laid v.now) }
-{
-    let mut left = v.len();
-    while 0 < left {
-        left -= 1;
-        words::put8(image, 2064 + 8 * (from + left), count_of(v, left) as u64);
+    ghost values = { λ v. v };
+
+    ghost values_long = { λ v. refl };
+
+    ghost values_at = { held_at };
+
+    ghost values_set = { λ v i x. refl };
+
+    fn whole(self) -> u64 {
+        u64::from(self)
+    }
+
+    fn low(whole: u64) -> u32 {
+        (whole % 0x100000000) as u32
     }
 }
 
-fn put_bytes(image: &mut [u8], from: usize, v: &[u8])
-    requires { 2064 + 8 * (from + length v.now) ≤ length image.old }
-    ensures { image.new ≡ splice image.old (2064 + 8 * from) (laid v.now) }
-{
-    let mut left = v.len();
-    while 0 < left {
-        left -= 1;
-        words::put8(image, 2064 + 8 * (from + left), byte_of(v, left) as u64);
+impl Held for u16 {
+    ghost bits = { 16 };
+
+    ghost value = { λ x. x };
+
+    ghost values = { λ v. v };
+
+    ghost values_long = { λ v. refl };
+
+    ghost values_at = { held_at };
+
+    ghost values_set = { λ v i x. refl };
+
+    fn whole(self) -> u64 {
+        u64::from(self)
+    }
+
+    fn low(whole: u64) -> u16 {
+        (whole % 0x10000) as u16
     }
 }
 
-// The low six bits of each.
+impl Held for u8 {
+    ghost bits = { 8 };
+
+    ghost value = { λ x. x };
+
+    ghost values = { λ v. v };
+
+    ghost values_long = { λ v. refl };
+
+    ghost values_at = { held_at };
+
+    ghost values_set = { λ v i x. refl };
+
+    fn whole(self) -> u64 {
+        u64::from(self)
+    }
+
+    fn low(whole: u64) -> u8 {
+        (whole % 0x100) as u8
+    }
+}
+
+fn put_row<T: Held>(image: &mut [u8], from: usize, v: &[T])
+    requires { 2064 + 8 * (from + length v.now) ≤ length image.old }
+    ensures { image.new ≡ splice image.old (2064 + 8 * from) (laid (T.values v.now)) }
+{
+    for k in (0..v.len()).rev() {
+        words::put8(image, 2064 + 8 * (from + k), v[k].whole());
+    }
+}
+
+// The low six bits of each: a row of its own, as these are not the numbers that stand in the device.
 fn put_sixes(image: &mut [u8], from: usize, v: &[u8])
     requires { 2064 + 8 * (from + length v.now) ≤ length image.old }
     ensures { image.new ≡ splice image.old (2064 + 8 * from) (laid (map (λ (x : ℕ). x % 64) v.now)) }
 {
-    let mut left = v.len();
-    while 0 < left {
-        left -= 1;
-        words::put8(
-            image,
-            2064 + 8 * (from + left),
-            (byte_of(v, left) % 64) as u64,
-        );
+    for k in (0..v.len()).rev() {
+        words::put8(image, 2064 + 8 * (from + k), u64::from(v[k] % 64));
     }
 }
 
@@ -84,11 +153,7 @@ fn put_table(image: &mut [u8], table: &[u8])
     requires { length table.now ≤ length image.old }
     ensures { image.new ≡ splice image.old 0 table.now }
 {
-    let mut left = table.len();
-    while 0 < left {
-        left -= 1;
-        image[left] = table[left];
-    }
+    image[..table.len()].copy_from_slice(table);
 }
 
 // 1 in the highest of 8 bytes where masks are ignored, 1 in the next in the chip's mode; else 0.
@@ -117,64 +182,19 @@ fn put_flags(image: &mut [u8], ignore_masks: bool, chip: bool)
 
 // ---- reading
 
-fn wide_at(image: &[u8], n: usize) -> u64
+fn number_at<T: Held>(image: &[u8], n: usize) -> T
     requires { 2072 + 8 * n ≤ length image.now }
-    ensures { result ≡ number_in 64 image.now n }
+    ensures { T.value result ≡ number_in T.bits image.now n }
 {
-    words::get8(image, 2064 + 8 * n)
+    T::low(words::get8(image, 2064 + 8 * n))
 }
 
-fn count_at(image: &[u8], n: usize) -> u32
-    requires { 2072 + 8 * n ≤ length image.now }
-    ensures { result ≡ number_in 32 image.now n }
-{
-    (words::get8(image, 2064 + 8 * n) % 0x100000000) as u32
-}
-
-fn half_at(image: &[u8], n: usize) -> u16
-    requires { 2072 + 8 * n ≤ length image.now }
-    ensures { result ≡ number_in 16 image.now n }
-{
-    (words::get8(image, 2064 + 8 * n) % 0x10000) as u16
-}
-
-fn byte_at(image: &[u8], n: usize) -> u8
-    requires { 2072 + 8 * n ≤ length image.now }
-    ensures { result ≡ number_in 8 image.now n }
-{
-    (words::get8(image, 2064 + 8 * n) % 0x100) as u8
-}
-
-fn get_wides(image: &[u8], from: usize, into: &mut [u64])
+fn get_row<T: Held>(image: &[u8], from: usize, into: &mut [T])
     requires { 2064 + 8 * (from + length into.old) ≤ length image.now }
-    ensures { into.new ≡ numbers_in 64 image.now from (length into.old) }
+    ensures { T.values into.new ≡ numbers_in T.bits image.now from (length into.old) }
 {
-    let mut left = into.len();
-    while 0 < left {
-        left -= 1;
-        into[left] = wide_at(image, from + left);
-    }
-}
-
-fn get_counts(image: &[u8], from: usize, into: &mut [u32])
-    requires { 2064 + 8 * (from + length into.old) ≤ length image.now }
-    ensures { into.new ≡ numbers_in 32 image.now from (length into.old) }
-{
-    let mut left = into.len();
-    while 0 < left {
-        left -= 1;
-        into[left] = count_at(image, from + left);
-    }
-}
-
-fn get_bytes(image: &[u8], from: usize, into: &mut [u8])
-    requires { 2064 + 8 * (from + length into.old) ≤ length image.now }
-    ensures { into.new ≡ numbers_in 8 image.now from (length into.old) }
-{
-    let mut left = into.len();
-    while 0 < left {
-        left -= 1;
-        into[left] = byte_at(image, from + left);
+    for k in (0..into.len()).rev() {
+        into[k] = number_at(image, from + k);
     }
 }
 
@@ -182,11 +202,7 @@ fn get_table(image: &[u8], into: &mut [u8])
     requires { length into.old ≤ length image.now }
     ensures { into.new ≡ part image.now 0 (length into.old) }
 {
-    let mut left = into.len();
-    while 0 < left {
-        left -= 1;
-        into[left] = image[left];
-    }
+    into.copy_from_slice(&image[..into.len()]);
 }
 
 // ---- a device
@@ -199,8 +215,8 @@ fn put_scalars(image: &mut [u8], d: Device)
     let scalars = d.scalars;
     let listed = device::listed(scalars);
     let none = [0u64; 16];
-    put_wides(image, 0, &none);
-    put_wides(image, 0, &listed);
+    put_row(image, 0, &none);
+    put_row(image, 0, &listed);
 }
 
 // Fields 16 to 63: each controller's own four.
@@ -224,7 +240,7 @@ fn put_own(image: &mut [u8], d: Device)
     own[9] = c.forced;
     own[10] = c.lines;
     own[11] = c.config as u64;
-    put_wides(image, 16, &own);
+    put_row(image, 16, &own);
 }
 
 // Fields 256 to 575: the level bytes of the three controllers, and 128 numbers that name no field.
@@ -236,10 +252,10 @@ fn put_levels(image: &mut [u8], d: Device)
     let b = device::controller_at(d, 1).levels;
     let c = device::controller_at(d, 2).levels;
     let none = [0u64; 128];
-    put_bytes(image, 256, &a);
-    put_bytes(image, 320, &b);
-    put_bytes(image, 384, &c);
-    put_wides(image, 448, &none);
+    put_row(image, 256, &a);
+    put_row(image, 320, &b);
+    put_row(image, 384, &c);
+    put_row(image, 448, &none);
 }
 
 // Fields 64 to 255: busy times, majors, pending counts.
@@ -250,9 +266,9 @@ fn put_channels(image: &mut [u8], d: Device)
     let busy = d.busy;
     let majors = d.majors;
     let pending = d.pending;
-    put_wides(image, 64, &busy);
-    put_wides(image, 128, &majors);
-    put_counts(image, 192, &pending);
+    put_row(image, 64, &busy);
+    put_row(image, 128, &majors);
+    put_row(image, 192, &pending);
 }
 
 // Fields 768 to 831: of priorities the bits that the mode has, six or none.
@@ -265,7 +281,7 @@ fn put_priorities(image: &mut [u8], d: Device)
         put_sixes(image, 768, &priorities);
     } else {
         let none = [0u64; 64];
-        put_wides(image, 768, &none);
+        put_row(image, 768, &none);
     }
 }
 
@@ -275,7 +291,7 @@ fn put_taken(image: &mut [u8], d: Device)
     ensures { image.new ≡ splice image.old 6672 (laid (joined (taken_of (view d)))) }
 {
     let taken = d.taken;
-    put_wides(image, 576, &taken);
+    put_row(image, 576, &taken);
     put_priorities(image, d);
 }
 
@@ -299,13 +315,13 @@ fn get_controller(image: &[u8], c: usize) -> Controller
     ensures { view_controller result ≡ controller_in image.now c }
 {
     let mut levels = [0u8; 64];
-    get_bytes(image, 256 + 64 * c, &mut levels);
+    get_row(image, 256 + 64 * c, &mut levels);
     Controller {
-        masks: wide_at(image, 16 + 4 * c),
-        forced: wide_at(image, 17 + 4 * c),
-        lines: wide_at(image, 18 + 4 * c),
+        masks: number_at(image, 16 + 4 * c),
+        forced: number_at(image, 17 + 4 * c),
+        lines: number_at(image, 18 + 4 * c),
         levels,
-        config: half_at(image, 19 + 4 * c),
+        config: number_at(image, 19 + 4 * c),
     }
 }
 
@@ -315,20 +331,20 @@ pub fn get_device(image: &[u8]) -> Device
     ensures { view result ≡ device_in image.now }
 {
     let mut first = [0u64; 16];
-    get_wides(image, 0, &mut first);
+    get_row(image, 0, &mut first);
     let scalars = device::from_list(&first);
     let mut table = [0u8; 2048];
     get_table(image, &mut table);
     let mut busy = [0u64; 64];
-    get_wides(image, 64, &mut busy);
+    get_row(image, 64, &mut busy);
     let mut majors = [0u64; 64];
-    get_wides(image, 128, &mut majors);
+    get_row(image, 128, &mut majors);
     let mut taken = [0u64; 192];
-    get_wides(image, 576, &mut taken);
+    get_row(image, 576, &mut taken);
     let mut pending = [0u32; 64];
-    get_counts(image, 192, &mut pending);
+    get_row(image, 192, &mut pending);
     let mut priorities = [0u8; 64];
-    get_bytes(image, 768, &mut priorities);
+    get_row(image, 768, &mut priorities);
     let a = get_controller(image, 0);
     let b = get_controller(image, 1);
     let c = get_controller(image, 2);
@@ -348,23 +364,15 @@ pub fn get_device(image: &[u8]) -> Device
 
 // ---- which bytes are an image: those that laying down the device in them would give again. What fits 64 bits always does.
 
-fn greater(a: u64, b: u64) -> u64
-    ensures { result ≡ max a b }
-{
-    if a < b { b } else { a }
-}
-
 // Each of `count` numbers from place `from` on fits `bits` bits: so exactly if the greatest does. Asked one by one, or by their OR, numbers cost
 // more: then the compiler sees no load of 8 bytes.
 fn fits(image: &[u8], from: usize, count: usize, bits: usize) -> bool
     requires { (2064 + 8 * (from + count) ≤ length image.now) × (bits < 64) }
     ensures { result ≡ fits_in (replicate count bits) image.now from }
 {
-    let mut most = 0;
-    let mut left = count;
-    while 0 < left {
-        left -= 1;
-        most = greater(most, wide_at(image, from + left));
+    let mut most = 0u64;
+    for k in (0..count).rev() {
+        most = most.max(number_at(image, from + k));
     }
     most >> bits == 0
 }
@@ -375,10 +383,8 @@ fn begins_with(a: &[u64], v: &[u64]) -> bool
     ensures { result ≡ alike (part a.now 0 (length v.now)) v.now }
 {
     let mut same = true;
-    let mut left = v.len();
-    while 0 < left {
-        left -= 1;
-        same = (a[left] == v[left]) & same;
+    for k in (0..v.len()).rev() {
+        same = (a[k] == v[k]) & same;
     }
     same
 }
@@ -398,7 +404,7 @@ fn scalars_fit(image: &[u8]) -> bool
     ensures { result ≡ scalars_fit image.now }
 {
     let mut first = [0u64; 16];
-    get_wides(image, 0, &mut first);
+    get_row(image, 0, &mut first);
     let scalars = device::from_list(&first);
     let listed = device::listed(scalars);
     begins_with(&first, &listed) & fits(image, listed.len(), 16 - listed.len(), 0)

@@ -1,5 +1,5 @@
 -- The laws that the proofs of this crate cite, over plain variables: digits, marks, lines in turn. Assumes nothing.
-use mathlib.Core.Bool.{Bool, true, false, cond}
+use mathlib.Core.Bool.{◌&&◌, Bool, true, false, cond}
 use mathlib.Core.List.{List, [], ◌∷◌, ◌++◌, append_assoc, append-nil}
 use mathlib.Core.Path.{◌≡◌, refl, sym, ap, ◌∙◌}
 use Prim.Native.Nat.{ℕ, zero, suc, ◌+◌, ◌-◌, ◌*◌, ◌/◌, ◌%◌, ◌≤◌, ◌<◌}
@@ -9,7 +9,7 @@ use native.Mathlib.Omega.{arith}
 use lib.Dec.{eqb}
 use lib.ListN.{length, get_or, set, take, drop, length-append, length-drop}
 use lib.Seq.{drop-drop, length-take-le}
-use borrow.Author.Tests.{lt-ltb, le-ltb, eq-eqb, ne_eqb}
+use borrow.Author.Tests.{lt-ltb, le-ltb}
 use Rattle.rules.specs.Bytes.{part, splice}
 use Rattle.rules.specs.TakeBack.{marked}
 use Rattle.rules.proofs.BytesLaws.{get_or-part, length_part, splice_append, splice_comm}
@@ -111,17 +111,9 @@ module _ (l : List ℕ) (r : ℕ) (fits : r * 16 + 16 ≤ length l) where
 
 -- ---- marks
 
-module _ (l : List ℕ) (at : ℕ) where
-  first : get_or (part l at 16) 0 0 ≡ get_or l at 0
-  first = get_or-part l at 16 0 (omega arith) ∙ ap (λ (i : ℕ). get_or l i 0) (add-zero at)
-
-  pub mark_second : get_or l at 0 ≡ 0x4A → eqb (get_or l (at + 1) 0) 0x52 ≡ marked (part l at 16)
-  unfolding marked
-  mark_second e = rw (first, eq-eqb (get_or l at 0) 0x4A e, get_or-part l at 16 1 (omega arith))
-
-  pub mark_wrong : (get_or l at 0 ≡ 0x4A → ⊥) → false ≡ marked (part l at 16)
-  unfolding marked
-  mark_wrong n = rw (first, ne_eqb (get_or l at 0) 0x4A n)
+pub mark_is : (l : List ℕ) (at : ℕ) → marked (part l at 16) ≡ eqb (get_or l at 0) 0x4A && eqb (get_or l (at + 1) 0) 0x52
+unfolding marked
+mark_is l at = rw (get_or-part l at 16 0 (omega arith), get_or-part l at 16 1 (omega arith), add-zero at)
 
 pub nothing_yet : (l : List ℕ) (n : ℕ) → 0 + marked_first (n - 0) (drop (0 * 16) l) ≡ marked_first n l
 nothing_yet l n = rw (sub-zero, zero-add)

@@ -34,10 +34,8 @@ fn put_digits(journal: &[u8], at: usize, out: &mut [u8], to: usize)
     requires { (at + 16 ≤ length journal.now) × (to + 32 ≤ length out.old) }
     ensures { out.new ≡ splice out.old to (digits (part journal.now at 16)) }
 {
-    let mut left = 16;
-    while 0 < left {
-        left -= 1;
-        put_byte(journal[at + left], out, to + 2 * left);
+    for k in (0..16).rev() {
+        put_byte(journal[at + k], out, to + 2 * k);
     }
 }
 
@@ -51,14 +49,12 @@ fn put_line(journal: &[u8], at: usize, out: &mut [u8], to: usize)
 }
 
 // "Mark 4A 52".
+#[tactic(auto, using(crate::proofs::Laws::mark_is))]
 fn is_marked(journal: &[u8], at: usize) -> bool
     requires { at + 16 ≤ length journal.now }
     ensures { result ≡ marked (part journal.now at 16) }
 {
-    if journal[at] == 0x4A {
-        return journal[at + 1] == 0x52;
-    }
-    false
+    journal[at] == 0x4A && journal[at + 1] == 0x52
 }
 
 // The lines of the first `count` records, up to the first with a wrong mark; how many there are.
@@ -66,13 +62,11 @@ pub fn list(journal: &[u8], count: usize, out: &mut [u8]) -> usize
     requires { (count * 16 ≤ length journal.now) × (count * 33 ≤ length out.old) }
     ensures { Listed count result journal.now out.old out.new }
 {
-    let mut r = 0;
-    while r < count {
+    for r in 0..count {
         if !is_marked(journal, r * 16) {
             return r;
         }
         put_line(journal, r * 16, out, r * 33);
-        r += 1;
     }
-    r
+    count
 }

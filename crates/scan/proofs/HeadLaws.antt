@@ -17,8 +17,10 @@ use Rattle.rules.specs.Fields.{field_at, fits_some}
 use Rattle.rules.specs.TakeBack.{marked, kind, width, place, sound_store, sound_field, sound_kind}
 use Rattle.rules.proofs.BoolLaws.{or_either}
 use Rattle.rules.proofs.BytesLaws.{get_or-part, part-part}
-use Rattle.device.specs.Spots.{bits_some, bits_at}
-use Rattle.device.proofs.Laws.{bits_most, fits_none}
+use Rattle.std.specs.Prelude.{Option as Maybe, Some, None}
+use Rattle.std.proofs.lemmas.Option.{none-some, same_Some}
+use Rattle.device.specs.Spots.{bits_found}
+use Rattle.device.proofs.Laws.{found_ranged}
 use Rattle.scan.specs.Heads.{Judges, sound_with}
 use Rattle.scan.specs.declared.Head.{Head}
 use Rattle.scan.specs.declared.Head.TheVariants.{Wide, Damaged}
@@ -75,21 +77,23 @@ module _ (base : ℕ) (chip : Bool) (w n : ℕ) where
   unfolding sound_field
   field_width e = record { agrees = λ v. rw (ne_eqb w 8 e); ranged = tt }
 
-  module _ (eight : w ≡ 8) {b : ℕ} (bits : b ≡ bits_at chip n) where
-    pub field_none : b ≡ 0 → Judges Damaged (sound_field base chip w n)
+  -- a field may be there or not, and its bits are those that were found
+  module _ (eight : w ≡ 8) {r : Maybe ℕ} (bits : r ≡ bits_found chip (field_at chip n)) where
+    pub field_none : r ≡ None → Judges Damaged (sound_field base chip w n)
     unfolding sound_field
-    field_none z = record { agrees = λ v. rw (eq-eqb w 8 eight) (fits_none chip n v bits z); ranged = tt }
-
-    pub field_wide : (b ≡ 0 → ⊥) → Judges (Wide b) (sound_field base chip w n)
-    unfolding sound_field
-    field_wide some_bits = record {
-      agrees = λ v. rw (eq-eqb w 8 eight) (by v (field_at chip n) bits);
-      ranged = (omega arith, omega (arith, bits_most chip n));
-    }
+    field_none z = record { agrees = λ v. rw (eq-eqb w 8 eight) (by v (field_at chip n) (sym z ∙ bits)); ranged = tt }
       where
-        by : (v : ℕ) (o : Option Field) → b ≡ bits_some chip o → ltb v (2 ^ b) ≡ fits_some chip o v
-        by v none e = absurd (some_bits e)
-        by v (some f) e = ap (λ (x : ℕ). ltb v (2 ^ x)) e
+        by : (v : ℕ) (o : Option Field) → None ≡ bits_found chip o → false ≡ fits_some chip o v
+        by v none e = refl
+        by v (some f) e = absurd (none-some _ e)
+
+    pub field_wide : {b : ℕ} → r ≡ Some b → Judges (Wide b) (sound_field base chip w n)
+    unfolding sound_field
+    field_wide {b} z = record { agrees = λ v. rw (eq-eqb w 8 eight) (by v (field_at chip n) (sym z ∙ bits)); ranged = found_ranged chip n (sym z ∙ bits) }
+      where
+        by : (v : ℕ) (o : Option Field) → Some b ≡ bits_found chip o → ltb v (2 ^ b) ≡ fits_some chip o v
+        by v none e = absurd (none-some _ (sym e))
+        by v (some f) e = ap (λ (x : ℕ). ltb v (2 ^ x)) (same_Some _ _ e)
 
 -- ---- a record: what the code reads of it
 

@@ -18,14 +18,12 @@ enum Head {
 }
 
 // "Mark 4A 52".
+#[tactic(auto, using(crate::proofs::HeadLaws::mark_is))]
 pub fn is_marked(journal: &[u8], at: usize) -> bool
     requires { at + 16 ≤ length journal.now }
     ensures { result ≡ marked (part journal.now at 16) }
 {
-    if journal[at] != 0x4A {
-        return false;
-    }
-    journal[at + 1] == 0x52
+    journal[at] == 0x4A && journal[at + 1] == 0x52
 }
 
 // A memory record: "a wrong .. width", "a place outside .. window". Its value may take the bits of as many bytes as it is wide.
@@ -61,10 +59,9 @@ fn field_head(chip: bool, number: u32, width: usize) -> Head
     if width != 8 {
         return Head::Damaged;
     }
-    let bits = device::field_bits(chip, number as usize);
-    if bits == 0 {
+    let Some(bits) = device::field_bits(chip, number as usize) else {
         return Head::Damaged;
-    }
+    };
     Head::Wide(bits as usize)
 }
 
@@ -108,27 +105,20 @@ pub fn all_sound(
     requires { from + count * 16 ≤ length journal.now }
     ensures { Scanned result chip base window.now count (drop from journal.now) }
 {
-    let mut done: usize = 0;
-    let verdict = 'records: loop {
-        if done == count {
-            break 'records true;
-        }
+    'records: for done in 0..count {
         let at = from + done * 16;
         let Head::Wide(bits) = head_of(chip, base, window, journal, at) else {
-            break 'records false;
+            return false;
         };
         let wide = (bits + 7) / 8;
-        let mut k: usize = 0;
-        'bytes: while k + wide < 8 {
+        'bytes: for k in 0..8 - wide {
             if journal[at + 8 + k] != 0 {
-                break 'records false;
+                return false;
             }
-            k += 1;
         }
-        if !is_within(journal[at + 8 + k], bits + 8 - wide * 8) {
-            break 'records false;
+        if !is_within(journal[at + 16 - wide], bits + 8 - wide * 8) {
+            return false;
         }
-        done += 1;
-    };
-    verdict
+    }
+    true
 }

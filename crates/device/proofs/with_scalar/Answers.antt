@@ -1,14 +1,7 @@
 -- `device::with_scalar` meets its contract: a list of numbers within their bits stays, one of them stored. Assumes nothing.
-use mathlib.Core.Path.{ap}
-use native.Mathlib.Omega.{arith}
-use lib.ListN.{length, length-set}
 use Rattle.rules.proofs.Typed.{scalars-within}
 use Rattle.device.proofs.Laws.{scalar_stored}
 use Rattle.device.proofs.with_scalar.Goals as goal
-
-pub from_list-requires : goal.from_list-requires
-from_list-requires c =
-    omega (arith, length-set c.listed-l.result c.args.n c.args.v, ap length c.listed-l.ensures)
 
 pub returns : goal.returns
 returns c =

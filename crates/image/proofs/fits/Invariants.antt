@@ -2,12 +2,9 @@
 use Rattle.image.specs.Fits.{fits_in}
 use lib.Dec.{ltb}
 use lib.ListN.{replicate}
-use Prim.Native.Nat.{◌+◌, ◌-◌, ◌^◌, ◌≤◌}
+use Prim.Native.Nat.{◌+◌, ◌-◌, ◌^◌}
 use mathlib.Core.Path.{◌≡◌}
 use Rattle.image.proofs.fits.Given as goal
 
-abbrev pub invariant-loop-left : goal.invariant-loop-left
-invariant-loop-left l = (l.left ≤ l.count) × (ltb l.most (2 ^ l.bits) ≡ fits_in (replicate (l.count - l.left) l.bits) l.image (l.from + l.left))
-
-abbrev pub decreases-loop-left : goal.decreases-loop-left
-decreases-loop-left l = l.left
+abbrev pub invariant-loop-k : goal.invariant-loop-k
+invariant-loop-k l = (ltb l.most (2 ^ l.bits) ≡ fits_in (replicate (l.count - l.k) l.bits) l.image (l.from + l.k))

@@ -5,4 +5,4 @@ use Rattle.image.proofs.get_controller.Goals as goal
 
 pub returns : goal.returns
 returns c =
-    rw (c.wide_at.ensures, c.wide_at-2.ensures, c.wide_at-3.ensures, c.get_bytes.ensures, c.half_at.ensures) (unfold controller_in in refl)
+    rw (c.number_at.ensures, c.number_at-2.ensures, c.number_at-3.ensures, c.get_row.ensures, c.number_at-4.ensures) (unfold controller_in in refl)

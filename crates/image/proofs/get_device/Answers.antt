@@ -20,4 +20,4 @@ bounds-image-2049 c = omega (arith, c.requires)
 
 pub returns : goal.returns
 returns c =
-    device_got _ (scalars_got _ c.get_wides.ensures c.from_list-scalars.ensures) c.get_table.ensures c.get_wides-2.ensures c.get_wides-3.ensures c.get_wides-4.ensures c.get_counts.ensures (priorities_got (chip_in c.args.image.now) _ c.get_bytes.ensures) c.get_controller-a.ensures c.get_controller-b.ensures c.get_controller-c.ensures
+    device_got _ (scalars_got _ c.get_row.ensures c.from_list-scalars.ensures) c.get_table.ensures c.get_row-2.ensures c.get_row-3.ensures c.get_row-4.ensures c.get_row-5.ensures (priorities_got (chip_in c.args.image.now) _ c.get_row-6.ensures) c.get_controller-a.ensures c.get_controller-b.ensures c.get_controller-c.ensures

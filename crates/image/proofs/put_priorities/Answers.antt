@@ -11,4 +11,4 @@ pub returns-then-d : goal.returns-then-d
 returns-then-d c = sixes_laid c.args.d (sound c.args.d c.well_formed.1.0) _ _ c.if-d.true c.put_sixes.ensures
 
 pub returns-else-d : goal.returns-else-d
-returns-else-d c = none_laid c.args.d (sound c.args.d c.well_formed.1.0) _ _ c.if-d.false c.put_wides.ensures
+returns-else-d c = none_laid c.args.d (sound c.args.d c.well_formed.1.0) _ _ c.if-d.false c.put_row.ensures

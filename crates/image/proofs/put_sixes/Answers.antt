@@ -4,41 +4,13 @@ use mathlib.Core.Path.{refl}
 use native.Mathlib.Omega.{arith}
 use Rattle.image.proofs.put_sixes.Goals as goal
 
-pub loop-left-init : goal.loop-left-init
-loop-left-init c = (omega arith, sixes_none _ _ c.args.v.now, refl)
+pub loop-k-init : goal.loop-k-init
+loop-k-init c = (sixes_none _ _ c.args.v.now, refl)
 
-pub overflow_sub-left : goal.overflow_sub-left
-overflow_sub-left c = omega arith
-
-pub overflow_add-from : goal.overflow_add-from
-overflow_add-from c = omega arith
-
-pub overflow_mul-from : goal.overflow_mul-from
-overflow_mul-from c = omega arith
-
-pub overflow_add-from-in-loop-left : goal.overflow_add-from-in-loop-left
-overflow_add-from-in-loop-left c = omega arith
-
-pub byte_of-requires : goal.byte_of-requires
-byte_of-requires c = omega arith
-
-pub overflow_cast-byte_of : goal.overflow_cast-byte_of
-overflow_cast-byte_of c = omega arith
-
-pub put8-requires : goal.put8-requires
-put8-requires c = omega arith
-
-pub loop-left-smaller : goal.loop-left-smaller
-loop-left-smaller c = omega arith
-
-pub loop-left-preserved : goal.loop-left-preserved
-loop-left-preserved c =
+pub loop-k-preserved : goal.loop-k-preserved
+loop-k-preserved c =
     let put = c.put8 in
-    let inv = c.loop-left.invariant in
-    (omega arith, sixes_turn _ _ c.args.v.now _ _ _ _ _ (omega arith) (omega arith) inv.1 c.byte_of.ensures put.ensures, omega (arith, put.auto.s))
-
-pub shape_of-image : goal.shape_of-image
-shape_of-image c = omega arith
+    (sixes_turn _ _ c.args.v.now c.loop-k.k _ _ _ _ (omega arith) (omega arith) c.loop-k.invariant.0 c.from.ensures put.ensures, omega (arith, put.auto.s))
 
 pub returns : goal.returns
-returns c = laid_all _ _ (sixes c.args.v.now) _ _ (omega arith) c.loop-left.invariant.1
+returns c = laid_all _ _ (sixes c.args.v.now) _ _ (omega arith) c.loop-k.invariant.0

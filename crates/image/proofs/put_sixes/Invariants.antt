@@ -3,13 +3,10 @@ use Rattle.image.proofs.Laws.{sixes}
 use Rattle.image.specs.Image.{laid}
 use Rattle.rules.specs.Bytes.{splice}
 use lib.ListN.{length, drop}
-use Prim.Native.Nat.{◌+◌, ◌*◌, ◌≤◌}
+use Prim.Native.Nat.{◌+◌, ◌*◌}
 use mathlib.Core.Path.{◌≡◌}
 use Rattle.image.proofs.put_sixes.Given as goal
 
-abbrev pub invariant-loop-left : goal.invariant-loop-left
-invariant-loop-left l =
-    (l.left ≤ length l.v) × (l.image ≡ splice l.initial.image (2064 + 8 * (l.from + l.left)) (laid (drop l.left (sixes l.v)))) × (length l.image ≡ length l.initial.image)
-
-abbrev pub decreases-loop-left : goal.decreases-loop-left
-decreases-loop-left l = l.left
+abbrev pub invariant-loop-k : goal.invariant-loop-k
+invariant-loop-k l =
+    (l.image ≡ splice l.initial.image (2064 + 8 * (l.from + l.k)) (laid (drop l.k (sixes l.v)))) × (length l.image ≡ length l.initial.image)

@@ -6,9 +6,9 @@ use native.Mathlib.Omega.{arith}
 use mathlib.Core.List.{[]}
 use Rattle.image.proofs.put_taken.Goals as goal
 
-pub put_wides-requires : goal.put_wides-requires
-put_wides-requires c = omega (arith, taken-long (view c.args.d) (sound c.args.d c.well_formed.1.0))
+pub put_row-requires : goal.put_row-requires
+put_row-requires c = omega (arith, taken-long (view c.args.d) (sound c.args.d c.well_formed.1.0))
 
 pub returns : goal.returns
 returns c =
-    taken-laid (view c.args.d) (sound c.args.d c.well_formed.1.0) _ _ _ [] [] c.put_wides.ensures c.put_priorities.ensures
+    taken-laid (view c.args.d) (sound c.args.d c.well_formed.1.0) _ _ _ [] [] c.put_row.ensures c.put_priorities.ensures

@@ -4,5 +4,5 @@ use Rattle.image.proofs.scalars_fit.Goals as goal
 
 pub returns : goal.returns
 returns c =
-    scalars_fit_lem _ (λ i. (c.type_inv.image i).fits) c.get_wides.ensures c.from_list-scalars.ensures
+    scalars_fit_lem _ (λ i. (c.type_inv.image i).fits) c.get_row.ensures c.from_list-scalars.ensures
     c.listed-listed.ensures c.begins_with.ensures c.fits.ensures

@@ -4,13 +4,11 @@ use native.Mathlib.Omega.{arith}
 use mathlib.Core.Path.{refl}
 use Rattle.listing.proofs.put_digits.Goals as goal
 
-pub loop-left-init : goal.loop-left-init
-loop-left-init c = (omega arith, digits_none _ _ _ _ 16, refl)
+pub loop-k-init : goal.loop-k-init
+loop-k-init c = (digits_none _ _ _ _ 16, refl)
 
-pub loop-left-preserved : goal.loop-left-preserved
-loop-left-preserved c =
-    let inv = c.loop-left.invariant in
-    (omega arith, digits-turn _ _ _ _ 16 _ _ (omega arith) (omega arith) inv.1 c.put_byte.ensures, omega arith)
+pub loop-k-preserved : goal.loop-k-preserved
+loop-k-preserved c = let i = c.loop-k.invariant in (digits-turn _ _ _ _ 16 _ _ (omega arith) (omega arith) i.0 c.put_byte.ensures, omega arith)
 
 pub returns : goal.returns
-returns c = digits_all _ _ _ _ 16 _ (omega arith) c.loop-left.invariant.1
+returns c = digits_all _ _ _ _ 16 _ (omega arith) c.loop-k.invariant.0

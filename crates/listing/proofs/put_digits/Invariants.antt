@@ -2,13 +2,10 @@
 use Rattle.listing.specs.Lines.{digits}
 use Rattle.rules.specs.Bytes.{part, splice}
 use lib.ListN.{length}
-use Prim.Native.Nat.{◌+◌, ◌-◌, ◌*◌, ◌≤◌}
+use Prim.Native.Nat.{◌+◌, ◌-◌, ◌*◌}
 use mathlib.Core.Path.{◌≡◌}
 use Rattle.listing.proofs.put_digits.Given as goal
 
-abbrev pub invariant-loop-left : goal.invariant-loop-left
-invariant-loop-left l =
-    (l.left ≤ 16) × (l.out ≡ splice l.initial.out (l.to + 2 * l.left) (digits (part l.journal (l.at + l.left) (16 - l.left)))) × (length l.out ≡ length l.initial.out)
-
-abbrev pub decreases-loop-left : goal.decreases-loop-left
-decreases-loop-left l = l.left
+abbrev pub invariant-loop-k : goal.invariant-loop-k
+invariant-loop-k l =
+    (l.out ≡ splice l.initial.out (l.to + 2 * l.k) (digits (part l.journal (l.at + l.k) (16 - l.k)))) × (length l.out ≡ length l.initial.out)

@@ -1,8 +1,0 @@
--- `device::with_config` meets its contract: one controller changed, and what it stands for. Assumes nothing.
-use mathlib.Core.Path.{refl}
-use Rattle.rules.specs.With.{with_config}
-use Rattle.rules.proofs.ViewLaws.{put_viewed}
-use Rattle.device.proofs.with_config.Goals as goal
-
-pub returns : goal.returns
-returns c = put_viewed c.args.d c.args.c _ (λ k. with_config k c.args.v) refl

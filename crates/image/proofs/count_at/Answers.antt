@@ -1,7 +1,0 @@
--- `image::count_at` meets its contract. Assumes nothing.
-use Rattle.image.specs.Image.{number_in}
-use mathlib.Core.Path.{refl}
-use Rattle.image.proofs.count_at.Goals as goal
-
-pub returns : goal.returns
-returns c = rw c.get8.ensures (unfold number_in in refl)
