@@ -1,5 +1,5 @@
 -- A take-back by cases: each refusal, and the call that is accepted. Assumes nothing.
-use Rattle.std.specs.Prelude.{None, Ok, Err}
+use Rattle.std.specs.Prelude.{Some, None, Ok, Err, Option}
 use mathlib.Core.Bool.{Bool, true, false, not, ◌||◌}
 use mathlib.Core.List.{List, [], ◌++◌, append_assoc}
 use mathlib.Core.Path.{◌≡◌, refl, sym, ap, ◌∙◌}
@@ -20,8 +20,7 @@ use Rattle.rules.proofs.BoolLaws.{neither}
 use Rattle.rules.proofs.Back.{take_none}
 use Rattle.rules.proofs.Told.{refusal_suc}
 use Rattle.back.specs.Standing.{machine, Finds, Sound}
-use Rattle.back.specs.declared.Standing.{Standing}
-use Rattle.back.specs.declared.Standing.TheVariants.{Group, Damaged}
+use Rattle.back.specs.declared.Group.{Group}
 
 module _ (len used : ℕ) (fine : bad_journal len used ≡ false) where
   pub used_fits : used ≤ len
@@ -63,27 +62,28 @@ module _ (base : ℕ) (d : HeldDevice) (w j : List ℕ) (used : ℕ) where
       nothing-stands z h = rw h (unmade_as 12 (take_none base (world_of (view d) w j used) (rw z)))
 
       -- what was found to stand is s
-      module _ (long : length d.table ≡ 2048) {s : Standing} (found : Finds d.chip base w (take used j) s) where
-        pub is_damaged : {r : Acted} → s ≡ Damaged → r ≡ record { verdict = Err Refusal.Damaged; used = used; device = d }
+      module _ (long : length d.table ≡ 2048) {s : Option Group} (found : Finds d.chip base w (take used j) s) where
+        pub is_damaged : {r : Acted} → s ≡ None → r ≡ record { verdict = Err Refusal.Damaged; used = used; device = d }
             → told_acted r w [] j ≡ after_back base (view d) w j used
         is_damaged e h = rw h (unmade_as 13 ((rw e at found) (view d) (drop used j) refl long))
 
-        pub accepted : {from n : ℕ} {after : HeldDevice} {w' j' : List ℕ} {r : Acted} → s ≡ Group from n
-            → machine w' (view after) ≡ undo base (decode_all n (drop from (take used j))) (machine w (view d))
-            → j' ≡ take from j ++ replicate (used - from) 0 ++ drop used j
-            → r ≡ record { verdict = (Ok tt); used = from; device = after }
+        pub accepted : {group : Group} {after : HeldDevice} {w' j' : List ℕ} {r : Acted} → s ≡ Some group
+            → machine w' (view after) ≡ undo base (decode_all group.count (drop group.from (take used j))) (machine w (view d))
+            → j' ≡ take group.from j ++ replicate (used - group.from) 0 ++ drop used j
+            → r ≡ record { verdict = Ok tt; used = group.from; device = after }
             → told_acted r w' [] j' ≡ after_back base (view d) w j used
         unfolding told_after heard_nothing
-        accepted {from} e undone cleared h =
-            let group = rw e at found in
+        accepted {group} e undone cleared h =
+            let from : ℕ = group.from in
+            let stood = rw e at found in
             let all : length (take used j) ≡ used = length-take-le used j (used_fits (length j) used journal-fine) in
-            let some : from ≤ used = omega (arith, group.0.long) in
+            let some : from ≤ used = omega (arith, stood.0.long) in
             let kept : length (take from (take used j)) ≡ from = length-take-le from (take used j) (omega arith) in
             let joined = append_assoc (take from j) (replicate (used - from) 0) (drop used j) in
-            rw (h, cleared) (sym (tested ∙ rw (group.1 (view d) (drop used j) refl long, ← undone, kept, all, take-take from used j some, joined)))
+            rw (h, cleared) (sym (tested ∙ rw (stood.1 (view d) (drop used j) refl long, ← undone, kept, all, take-take from used j some, joined)))
 
 -- of a group that stands the bytes are there, and it is sound
-pub group_stands : {chip : Bool} {base : ℕ} {w used : List ℕ} {s : Standing} {from n : ℕ} → Finds chip base w used s → s ≡ Group from n → Sound chip base w used from n
+pub group_stands : {chip : Bool} {base : ℕ} {w used : List ℕ} {s : Option Group} {group : Group} → Finds chip base w used s → s ≡ Some group → Sound chip base w used group.from group.count
 group_stands found e = (rw e at found).0
 
 -- ---- priorities: a refused call's answer has the device, and an accepted one's verdict is no refusal

@@ -1,4 +1,5 @@
 -- The last group of a used journal, by cases: what it makes of a take-back. Assumes nothing.
+use Rattle.std.specs.Prelude.{Some, None}
 use mathlib.Core.Bool.{Bool, true, false, ◌&&◌}
 use mathlib.Core.List.{List}
 use mathlib.Core.Path.{◌≡◌, refl, sym, ap, ◌∙◌}
@@ -17,7 +18,6 @@ use Rattle.scan.specs.Heads.{Scanned, scanning}
 use Rattle.scan.proofs.HeadLaws.{number_one}
 use Rattle.scan.proofs.Laws.{table-scanning, mode_scanning}
 use Rattle.back.specs.Standing.{machine, journalled, taken_back, Finds}
-use Rattle.back.specs.declared.Standing.TheVariants.{Group, Damaged}
 
 -- ---- an end, as the code reads it
 
@@ -75,18 +75,18 @@ module _ (chip : Bool) (base : ℕ) (w l : List ℕ) (some : 16 ≤ length l) wh
         undone s = its_bytes ∙ rw (s, take_group) (rw (length-drop (length l - 16 - n * 16) l) refl)
 
   -- what the code answers
-  pub no_end : ends (part l (length l - 16) 16) ≡ false → Finds chip base w l Damaged
+  pub no_end : ends (part l (length l - 16) 16) ≡ false → Finds chip base w l None
   no_end e d free mode long = no_group (machine w d) free e
 
   module _ (e : ends (part l (length l - 16) 16) ≡ true) {n : ℕ} (said : n ≡ number (part l (length l - 16 + 8) 8)) where
-    pub too_long : (length l - 16) / 16 < n → Finds chip base w l Damaged
+    pub too_long : (length l - 16) / 16 < n → Finds chip base w l None
     too_long h d free mode long = longer (machine w d) free e n said h
 
     module _ (h : n ≤ (length l - 16) / 16) {r : Bool} (scanned : Scanned r chip base w n (drop (length l - 16 - n * 16) l)) where
-      pub some_damaged : r ≡ false → Finds chip base w l Damaged
+      pub some_damaged : r ≡ false → Finds chip base w l None
       some_damaged s d free mode long = damaged (machine w d) free e n said h (sym (scanned d mode long) ∙ s)
 
-      pub all_sound_lem : r ≡ true → Finds chip base w l (Group (length l - 16 - n * 16) n)
+      pub all_sound_lem : r ≡ true → Finds chip base w l (Some (record { from = length l - 16 - n * 16; count = n }))
       unfolding scanning
       all_sound_lem s = (
         record { long = omega arith; sound = sym (scanned (scanning chip w).dev (mode_scanning chip w) (table-scanning chip w)) ∙ s },

@@ -176,13 +176,12 @@ module _ (base : ℕ) where
         ∙ each_sound (scanning chip w₀) count (drop from j) e i h
 
     -- the last `done` are undone: the next is the last that is left
-    pub undo-turn : (done : ℕ) → done < count → (m : Machine) {m' : Machine} → m' ≡ undo_rec base (decode (part j (from + (count - done - 1) * 16) 16)) m
-        → undo base (decode_all (count - (done + 1)) (drop from j)) m' ≡ undo base (decode_all (count - done) (drop from j)) m
-    undo-turn done more m e =
-        let n : ℕ = count - done - 1 in
-        let s : count - done ≡ suc n = omega arith in
-        let z : count - (done + 1) ≡ n = omega arith in
-        rw (s, z, e, record_at_lem n (omega arith)) (sym (last_first n (drop from j) m))
+    pub undo-turn : (left : ℕ) → 0 < left → left ≤ count → (m : Machine) {m' : Machine} → m' ≡ undo_rec base (decode (part j (from + (left - 1) * 16) 16)) m
+        → undo base (decode_all (left - 1) (drop from j)) m' ≡ undo base (decode_all left (drop from j)) m
+    undo-turn left more within m e =
+        let n : ℕ = left - 1 in
+        let s : left ≡ suc n = omega arith in
+        rw (e, record_at_lem n (omega arith)) (sym (last_first n (drop from j) m)) ∙ ap (λ (k : ℕ). undo base (decode_all k (drop from j)) m) (sym s)
 
   pub undo_none : (n : ℕ) (l : List ℕ) (m : Machine) → n ≡ 0 → undo base (decode_all n l) m ≡ m
   unfolding undo decode_all

@@ -1,13 +1,12 @@
 -- The last journalled group of a used journal, and what a take-back does with it. Assumes nothing.
-use Rattle.std.specs.Prelude.{Bool, true, List, ◌++◌, ◌≡◌, ℕ, ◌+◌, ◌-◌, ◌*◌, length, take, drop, replicate}
+use Rattle.std.specs.Prelude.{Bool, true, List, ◌++◌, ◌≡◌, ℕ, ◌+◌, ◌-◌, ◌*◌, length, take, drop, replicate, Option, Some, None}
 use Rattle.rules.specs.Carry.{Machine, World, Rec, stood_at, stood_in, made, unmade, undo_rec, undo}
 use Rattle.rules.specs.Fields.{with_number}
 use Rattle.rules.specs.TakeBack.{all_sound, decode_all, take_back}
 use Rattle.rules.specs.With.{with_table}
 use Rattle.rules.specs.State.{Device}
 use Rattle.scan.specs.Heads.{scanning}
-use Rattle.back.specs.declared.Standing.{Standing}
-use Rattle.back.specs.declared.Standing.TheVariants.{Group, Damaged}
+use Rattle.back.specs.declared.Group.{Group}
 
 abbrev pub machine : List ℕ → Device → Machine
 machine w d = record { mem = w; dev = d }
@@ -31,12 +30,12 @@ pub record Sound (chip : Bool) (base : ℕ) (w used : List ℕ) (from n : ℕ) :
 
 -- what was found to stand last, in a mode, a window w and a used journal, and what it makes of a take-back. Of a device only its mode and the length of
 -- its table count
-abbrev pub Finds : Bool → ℕ → List ℕ → List ℕ → Standing → Type 0
-Finds chip base w used (Group from n) =
-    Sound chip base w used from n
+abbrev pub Finds : Bool → ℕ → List ℕ → List ℕ → Option Group → Type 0
+Finds chip base w used (Some group) =
+    Sound chip base w used group.from group.count
     × ((d : Device) (free : List ℕ) → d.chip ≡ chip → length d.table ≡ 2048
-    → take_back base (journalled (machine w d) used free) ≡ made tt (taken_back base (journalled (machine w d) used free) from n))
-Finds chip base w used Damaged =
+    → take_back base (journalled (machine w d) used free) ≡ made tt (taken_back base (journalled (machine w d) used free) group.from group.count))
+Finds chip base w used None =
     (d : Device) (free : List ℕ) → d.chip ≡ chip → length d.table ≡ 2048
     → take_back base (journalled (machine w d) used free) ≡ unmade 13 (journalled (machine w d) used free)
 

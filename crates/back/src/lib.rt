@@ -14,11 +14,11 @@ ghost use Rattle.back.specs.Standing.{Finds, machine};
 
 use rules::{Acted, Device, Refusal, Verdict};
 
-// What stands last in the used journal: a sound group, where it starts and how many records it has before its end; or damage.
+// The group that stands last in the used journal, a sound one: where it starts, and how many records it has before its end.
 #[derive(Clone, Copy)]
-enum Standing {
-    Group(usize, usize),
-    Damaged,
+struct Group {
+    from: usize,
+    count: usize,
 }
 
 // ---- finding the last group
@@ -28,38 +28,32 @@ fn is_end(stands: &[u8], at: usize) -> bool
     requires { at + 16 ≤ length stands.now }
     ensures { result ≡ ends (part stands.now at 16) }
 {
-    if !scan::is_marked(stands, at) {
-        return false;
-    }
-    if words::get1(stands, at + 2) != 3 {
-        return false;
-    }
-    if words::get1(stands, at + 3) != 0 {
-        return false;
-    }
-    words::get4(stands, at + 4) == 0
+    scan::is_marked(stands, at)
+        & (words::get1(stands, at + 2) == 3)
+        & (words::get1(stands, at + 3) == 0)
+        & (words::get4(stands, at + 4) == 0)
 }
 
-// "Damaged: no valid end, .. a group longer than the used part", and what the scan finds.
-fn last_group(chip: bool, base: u32, window: &[u8], stands: &[u8]) -> Standing
+// That group; or none, since it is damaged: "no valid end, .. a group longer than the used part", and what the scan finds.
+fn last_group(chip: bool, base: u32, window: &[u8], stands: &[u8]) -> Option<Group>
     requires { 16 ≤ length stands.now }
     ensures { Finds chip base window.now stands.now result }
 {
     let end = stands.len() - 16;
     if !is_end(stands, end) {
-        return Standing::Damaged;
+        return None;
     }
     let told = words::get8(stands, end + 8);
     let room = (end / 16) as u64;
     if room < told {
-        return Standing::Damaged;
+        return None;
     }
     let count = told as usize;
     let from = end - count * 16;
     if !scan::all_sound(chip, base, window, stands, from, count) {
-        return Standing::Damaged;
+        return None;
     }
-    Standing::Group(from, count)
+    Some(Group { from, count })
 }
 
 // ---- undoing it
@@ -96,15 +90,12 @@ fn undo_group(
 {
     let mut table = d.table;
     let mut e = d;
-    let mut done = 0;
-    while done < count {
-        let last = count - done - 1;
-        let at = from + last * 16;
+    for k in (0..count).rev() {
+        let at = from + k * 16;
         journal::undo_store(base, window, &mut table, stands, at);
         if is_field(stands, at) {
             e = undo_field(e, stands, at);
         }
-        done += 1;
     }
     e.table = table;
     e
@@ -149,10 +140,11 @@ pub fn take_back(d: Device, base: u32, window: &mut [u8], journal: &mut [u8], us
         return refused(d, Refusal::NothingStands, used);
     }
     let stands = &journal[..used];
-    let Standing::Group(from, count) = last_group(d.chip, base, window, stands) else {
+    let Some(group) = last_group(d.chip, base, window, stands) else {
         return refused(d, Refusal::Damaged, used);
     };
-    let e = undo_group(d, base, window, stands, from, count);
+    let from = group.from;
+    let e = undo_group(d, base, window, stands, from, group.count);
     words::clear(journal, from, used);
     accepted(e, from)
 }

@@ -22,8 +22,7 @@ use Rattle.std.proofs.lemmas.Option.{none-some, same_Some}
 use Rattle.device.specs.Spots.{bits_found}
 use Rattle.device.proofs.Laws.{found_ranged}
 use Rattle.scan.specs.Heads.{Judges, sound_with}
-use Rattle.scan.specs.declared.Head.{Head}
-use Rattle.scan.specs.declared.Head.TheVariants.{Wide, Damaged}
+use Rattle.scan.specs.Heads.{Head}
 
 -- ---- the mark
 
@@ -57,29 +56,29 @@ pub legal-most : (sp : Space) (w : ℕ) → legal sp w ≡ true → w ≤ 8
 legal-most sp w e = (legal_wide sp w e).1
 
 module _ (base : ℕ) (m : Machine) (sp : Space) (w a : ℕ) where
-  pub wrong-width : legal sp w ≡ false → Judges Damaged (sound_store base m sp w a)
+  pub wrong-width : legal sp w ≡ false → Judges None (sound_store base m sp w a)
   unfolding sound_store
   wrong-width e = record { agrees = λ v. rw e; ranged = tt }
 
   module _ (fair : legal sp w ≡ true) where
-    pub outside : there base sp a w m ≡ false → Judges Damaged (sound_store base m sp w a)
+    pub outside : there base sp a w m ≡ false → Judges None (sound_store base m sp w a)
     unfolding sound_store
     outside e = record { agrees = λ v. rw (fair, e); ranged = tt }
 
-    pub wide : there base sp a w m ≡ true → Judges (Wide (w * 8)) (sound_store base m sp w a)
+    pub wide : there base sp a w m ≡ true → Judges (Some (w * 8)) (sound_store base m sp w a)
     unfolding sound_store
     wide e = let l = legal_wide sp w fair in record { agrees = λ v. rw (fair, e, byte_bits w); ranged = (omega arith, omega arith) }
 
 -- ---- fields
 
 module _ (base : ℕ) (chip : Bool) (w n : ℕ) where
-  pub field_width : (w ≡ 8 → ⊥) → Judges Damaged (sound_field base chip w n)
+  pub field_width : (w ≡ 8 → ⊥) → Judges None (sound_field base chip w n)
   unfolding sound_field
   field_width e = record { agrees = λ v. rw (ne_eqb w 8 e); ranged = tt }
 
   -- a field may be there or not, and its bits are those that were found
   module _ (eight : w ≡ 8) {r : Maybe ℕ} (bits : r ≡ bits_found chip (field_at chip n)) where
-    pub field_none : r ≡ None → Judges Damaged (sound_field base chip w n)
+    pub field_none : r ≡ None → Judges None (sound_field base chip w n)
     unfolding sound_field
     field_none z = record { agrees = λ v. rw (eq-eqb w 8 eight) (by v (field_at chip n) (sym z ∙ bits)); ranged = tt }
       where
@@ -87,7 +86,7 @@ module _ (base : ℕ) (chip : Bool) (w n : ℕ) where
         by v none e = refl
         by v (some f) e = absurd (none-some _ e)
 
-    pub field_wide : {b : ℕ} → r ≡ Some b → Judges (Wide b) (sound_field base chip w n)
+    pub field_wide : {b : ℕ} → r ≡ Some b → Judges (Some b) (sound_field base chip w n)
     unfolding sound_field
     field_wide {b} z = record { agrees = λ v. rw (eq-eqb w 8 eight) (by v (field_at chip n) (sym z ∙ bits)); ranged = found_ranged chip n (sym z ∙ bits) }
       where
@@ -101,7 +100,7 @@ pub number_one : (l : List ℕ) (i : ℕ) → number (part l i 1) ≡ get_or l i
 unfolding number part
 number_one l i = omega arith
 
-pub unmarked : (base : ℕ) (m : Machine) (l : List ℕ) → marked l ≡ false → Judges Damaged (sound_with base m l)
+pub unmarked : (base : ℕ) (m : Machine) (l : List ℕ) → marked l ≡ false → Judges None (sound_with base m l)
 unfolding sound_with
 unmarked base m l e = record { agrees = λ v. rw e; ranged = tt }
 
@@ -131,7 +130,7 @@ module _ (base : ℕ) (m : Machine) (j : List ℕ) (at : ℕ) {k w a : ℕ} (is-
     unfolding sound_kind
     in_field c e h = judged h (λ v. rw (e, c))
 
-    pub other_kind : (k ≡ 0 → ⊥) → (k ≡ 1 → ⊥) → (k ≡ 2 → ⊥) → Judges Damaged (sound_with base m (part j at 16))
+    pub other_kind : (k ≡ 0 → ⊥) → (k ≡ 1 → ⊥) → (k ≡ 2 → ⊥) → Judges None (sound_with base m (part j at 16))
     unfolding sound_kind
     other_kind n₀ n₁ n₂ = judged (record { agrees = λ v. refl; ranged = tt }) (λ v. by k refl v)
       where

@@ -1,4 +1,5 @@
 -- The scan's two loops: records in turn, and of each the value's leading bytes in turn. Assumes nothing.
+use Rattle.std.specs.Prelude.{Some, None}
 use mathlib.Core.Bool.{Bool, true, false, ◌&&◌}
 use mathlib.Core.List.{List}
 use mathlib.Core.Path.{◌≡◌, refl, sym, ap, ◌∙◌, subst}
@@ -21,8 +22,7 @@ use Rattle.rules.proofs.Cut.{part_cut}
 use Rattle.memory.specs.Places.{holding}
 use Rattle.scan.specs.Heads.{allows, Judges, scanning, sound_with}
 use Rattle.scan.proofs.HeadLaws.{byte_bits}
-use Rattle.scan.specs.declared.Head.{Head}
-use Rattle.scan.specs.declared.Head.TheVariants.{Wide, Damaged}
+use Rattle.scan.specs.Heads.{Head}
 
 -- ---- what is sound goes by lengths and mode alone
 
@@ -79,7 +79,7 @@ any_device base chip w d c e n l =
 
 -- ---- a value's leading bytes
 
-pub wide_ranged : {h : Head} {test : ℕ → Bool} {b : ℕ} → Judges h test → h ≡ Wide b → (0 < b) × (b ≤ 64)
+pub wide_ranged : {h : Head} {test : ℕ → Bool} {b : ℕ} → Judges h test → h ≡ Some b → (0 < b) × (b ≤ 64)
 wide_ranged judged e = rw e at judged.ranged
 
 first_zero : (j : List ℕ) (p n : ℕ) → get_or j p 0 ≡ 0 → number (part j p (suc n)) ≡ number (part j (suc p) n)
@@ -174,10 +174,10 @@ module _ (base : ℕ) (m : Machine) (j : List ℕ) (from count : ℕ) where
     by_head = sym (judged.agrees (value (part j (from + done * 16) 16))) ∙ ap (allows h) value_is
 
     -- the head is damaged
-    pub head_damaged : h ≡ Damaged → left_sound base m j from count done ≡ false
+    pub head_damaged : h ≡ None → left_sound base m j from count done ≡ false
     head_damaged e = rw (split, by_head, e)
 
-    module _ {b : ℕ} (wide : h ≡ Wide b) where
+    module _ {b : ℕ} (wide : h ≡ Some b) where
       -- the value is too wide
       pub value_damaged : ltb (number (part j (from + done * 16 + 8) 8)) (2 ^ b) ≡ false → left_sound base m j from count done ≡ false
       value_damaged e = rw (split, by_head, wide, e)

@@ -1,25 +1,27 @@
 -- What the damage scan of a group says. Document 01, "Damaged". Assumes nothing.
-use Rattle.std.specs.Prelude.{Bool, false, ◌&&◌, List, ◌≡◌, ℕ, ◌^◌, ◌≤◌, ◌<◌, ltb, length}
+use Rattle.std.specs.Prelude.{Bool, false, ◌&&◌, List, ◌≡◌, ℕ, ◌^◌, ◌≤◌, ◌<◌, ltb, length, Option, Some, None}
 use Rattle.rules.specs.Calls.{fresh}
 use Rattle.rules.specs.Carry.{Machine}
 use Rattle.rules.specs.TakeBack.{marked, kind, width, place, sound_kind, all_sound}
 use Rattle.rules.specs.State.{Device}
-use Rattle.scan.specs.declared.Head.{Head}
-use Rattle.scan.specs.declared.Head.TheVariants.{Wide, Damaged}
 
 -- a machine of this mode with this window; what else its device holds makes no difference to the scan
 unfoldable pub scanning : Bool → List ℕ → Machine
 scanning chip w = record { mem = w; dev = fresh false chip }
 
+-- what the first 8 bytes of a record leave to its value: so many bits; or nothing, since they are damaged
+abbrev pub Head : Type 0
+Head = Option ℕ
+
 -- whether a value is sound behind a head: it has no more bits than are left to it
 abbrev pub allows : Head → ℕ → Bool
-allows (Wide b) v = ltb v (2 ^ b)
-allows Damaged v = false
+allows (Some b) v = ltb v (2 ^ b)
+allows None v = false
 
 -- some are, and at most 64
 abbrev pub Ranged : Head → Type 0
-Ranged (Wide b) = (0 < b) × (b ≤ 64)
-Ranged Damaged = Unit {0}
+Ranged (Some b) = (0 < b) × (b ≤ 64)
+Ranged None = Unit {0}
 
 -- a head that says of every value what a test of the rules says
 pub record Judges (h : Head) (test : ℕ → Bool) : Type 0 where

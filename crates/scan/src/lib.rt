@@ -8,14 +8,7 @@ ghost use Rattle.rules.specs.TakeBack.{marked, sound_store, sound_field};
 ghost use Rattle.memory.specs.Places.{holding};
 ghost use Rattle.scan.specs.Heads.{Judges, Scanned, scanning, sound_with};
 
-use memory::Place;
-
-// What the first 8 bytes of a record leave to its value: the lowest so many of its 64 bits, or, since they are damaged, nothing.
-#[derive(Clone, Copy)]
-enum Head {
-    Wide(usize),
-    Damaged,
-}
+// ---- what the first 8 bytes of a record leave to its value: the lowest so many of its 64 bits; or nothing, since they are damaged
 
 // "Mark 4A 52".
 #[tactic(auto, using(crate::proofs::HeadLaws::mark_is))]
@@ -27,51 +20,47 @@ pub fn is_marked(journal: &[u8], at: usize) -> bool
 }
 
 // A memory record: "a wrong .. width", "a place outside .. window". Its value may take the bits of as many bytes as it is wide.
-fn window_head(base: u32, window: &[u8], place: u32, width: usize) -> Head
+fn window_head(base: u32, window: &[u8], place: u32, width: usize) -> Option<usize>
     ensures { Judges result (sound_store base (holding window.now) in_window width place) }
 {
     if !journal::is_memory_width(width) {
-        return Head::Damaged;
+        return None;
     }
-    let Place::At(_) = memory::where_is(base, window, place, width) else {
-        return Head::Damaged;
-    };
-    Head::Wide(width * 8)
+    memory::where_is(base, window, place, width)?;
+    Some(width * 8)
 }
 
 // A descriptor record: "a wrong .. width", "a place outside table".
-fn table_head(place: u32, width: usize) -> Head
+fn table_head(place: u32, width: usize) -> Option<usize>
     ensures { (base : ℕ) (w : List ℕ) → Judges result (sound_store base (holding w) in_table width place) }
 {
     if !journal::is_table_width(width) {
-        return Head::Damaged;
+        return None;
     }
     if 2048 < (place as usize) + width {
-        return Head::Damaged;
+        return None;
     }
-    Head::Wide(width * 8)
+    Some(width * 8)
 }
 
 // "Kind 2: field (8; number)." Its value may take the bits that the field has in the mode; a number that names no field there is a wrong place.
-fn field_head(chip: bool, number: u32, width: usize) -> Head
+fn field_head(chip: bool, number: u32, width: usize) -> Option<usize>
     ensures { (base : ℕ) → Judges result (sound_field base chip width number) }
 {
     if width != 8 {
-        return Head::Damaged;
+        return None;
     }
-    let Some(bits) = device::field_bits(chip, number as usize) else {
-        return Head::Damaged;
-    };
-    Head::Wide(bits as usize)
+    let bits = device::field_bits(chip, number as usize)?;
+    Some(bits as usize)
 }
 
 // "A wrong mark, kind, width or place". A group's own end stands behind its records: "an end inside the group" is a wrong kind.
-fn head_of(chip: bool, base: u32, window: &[u8], journal: &[u8], at: usize) -> Head
+fn head_of(chip: bool, base: u32, window: &[u8], journal: &[u8], at: usize) -> Option<usize>
     requires { at + 16 ≤ length journal.now }
     ensures { Judges result (sound_with base (scanning chip window.now) (part journal.now at 16)) }
 {
     if !is_marked(journal, at) {
-        return Head::Damaged;
+        return None;
     }
     let kind = words::get1(journal, at + 2);
     let width = words::get1(journal, at + 3) as usize;
@@ -80,7 +69,7 @@ fn head_of(chip: bool, base: u32, window: &[u8], journal: &[u8], at: usize) -> H
         0 => window_head(base, window, place, width),
         1 => table_head(place, width),
         2 => field_head(chip, place, width),
-        _ => Head::Damaged,
+        _ => None,
     }
 }
 
@@ -107,7 +96,7 @@ pub fn all_sound(
 {
     'records: for done in 0..count {
         let at = from + done * 16;
-        let Head::Wide(bits) = head_of(chip, base, window, journal, at) else {
+        let Some(bits) = head_of(chip, base, window, journal, at) else {
             return false;
         };
         let wide = (bits + 7) / 8;

@@ -38,19 +38,19 @@ returns-in_default c = (
 
 pub undo_group-e-requires : goal.undo_group-e-requires
 undo_group-e-requires c =
-    let s = group_stands c.last_group.ensures c.in-Group.is in
+    let s = group_stands c.last_group.ensures c.in-Some.is in
     (omega (arith, s.long), s.sound)
 
 pub clear-requires : goal.clear-requires
 clear-requires c =
     let a = c.args in
     let fits = used_fits _ _ (sym c.bad_journal.ensures ∙ c.if-bad_journal.false) in
-    let s = group_stands c.last_group.ensures c.in-Group.is in
+    let s = group_stands c.last_group.ensures c.in-Some.is in
     (omega (arith, s.long, length-take-le a.used a.journal.now fits), omega (arith, fits))
 
 pub returns : goal.returns
 returns c = (
   accepted _ c.args.d _ _ _ (sym c.bad_window.ensures ∙ c.if-bad_window.false) (sym c.bad_journal.ensures ∙ c.if-bad_journal.false) (table-size c.args.d c.well_formed.0)
-      c.last_group.ensures c.in-Group.is c.undo_group-e.ensures c.clear.ensures c.accepted.ensures,
+      c.last_group.ensures c.in-Some.is c.undo_group-e.ensures c.clear.ensures c.accepted.ensures,
   accepted_spares c.accepted.ensures,
 )

@@ -9,61 +9,40 @@ use Rattle.rules.specs.Bytes.{part}
 use Rattle.rules.specs.State.{Device}
 use Rattle.rules.specs.View.{view}
 use native.Mathlib.Omega.{arith}
-use native.Mathlib.Nat.{sub-zero}
 use mathlib.Core.Path.{◌≡◌, refl, sym, ap, ◌∙◌}
 use Prim.Native.Nat.{◌+◌, ◌*◌, ◌-◌}
 use Rattle.back.proofs.undo_group.Goals as goal
-use Rattle.back.proofs.undo_group.Goals.{then-is_field, else-is_field}
 
-pub loop-done-init : goal.loop-done-init
-loop-done-init c = (omega arith, rw sub-zero, refl, table-size c.args.d c.well_formed.0, refl)
-
-pub overflow_sub-last : goal.overflow_sub-last
-overflow_sub-last c = omega arith
-
-pub overflow_sub-last-in-loop-done : goal.overflow_sub-last-in-loop-done
-overflow_sub-last-in-loop-done c = omega arith
-
-pub overflow_mul-at : goal.overflow_mul-at
-overflow_mul-at c = omega arith
-
-pub overflow_add-at : goal.overflow_add-at
-overflow_add-at c = omega arith
-
-pub undo_store-requires : goal.undo_store-requires
-undo_store-requires c = omega arith
-
-pub is_field-requires : goal.is_field-requires
-is_field-requires c = omega arith
+pub loop-k-init : goal.loop-k-init
+loop-k-init c = (refl, refl, table-size c.args.d c.well_formed.0, refl)
 
 pub undo_field-e-requires : goal.undo_field-e-requires
-undo_field-e-requires c = (omega arith, field_held _ _ _ (mode_scanning _ _ ∙ sym c.loop-done.invariant.4) (still_sound _ _ _ _ (omega arith) _ _ c.loop-done.window c.loop-done.invariant.2 c.requires.1 _ (omega arith)) (sym c.is_field.ensures ∙ c.if-is_field.true))
+undo_field-e-requires c = (omega arith, field_held _ _ _ (mode_scanning _ _ ∙ sym c.loop-k.invariant.3) (still_sound _ _ _ _ (omega arith) _ _ c.loop-k.window c.loop-k.invariant.1 c.requires.1 _ (omega arith)) (sym c.is_field.ensures ∙ c.if-is_field.true))
 
-pub overflow_add-done : goal.overflow_add-done
-overflow_add-done c = omega arith
-
-pub loop-done-smaller : goal.loop-done-smaller
-loop-done-smaller c = omega arith
-
-pub loop-done-preserved : goal.loop-done-preserved
-loop-done-preserved c =
+-- a record undone: it was a field's, or a store's
+pub loop-k-preserved-then-is_field : goal.loop-k-preserved-then-is_field
+loop-k-preserved-then-is_field c =
     let one = c.undo_store in
-    let at = c.loop-done in
+    let at = c.loop-k in
     let inv = at.invariant in
-    let field = c.is_field.ensures in
-    let undone : view c.if-is_field.e ≡ undo_field (decode (part c.args.stands.now (c.args.from + (c.args.count - at.done - 1) * 16) 16)) (view at.e) = elim c.if-is_field.branch [
-      | then-is_field w ↦ field_so _ (view at.e) (sym field ∙ w.if-is_field.true) (ap view w.e-is ∙ w.undo_field-e.ensures)
-      | else-is_field w ↦ store_so _ (view at.e) (sym field ∙ w.if-is_field.false) (ap view w.e-is)
-    ] in (
-      omega arith,
-      undo-turn _ _ _ _ (omega arith) _ (omega arith) _ (both_undone _ _ _ _ _ _ (view at.e) (store_undone _ _ _ _ _ inv.3 (still_sound _ _ _ _ (omega arith) _ _ at.window inv.2 c.requires.1 _ (omega arith)) one.ensures) undone) ∙ inv.1,
-      omega (arith, one.auto.table),
-      line_as_long _ _ _ _ _ _ one.ensures (view at.e) ∙ inv.3,
-      ap (λ (d : Device). d.chip) undone ∙ mode_kept _ _ ∙ inv.4,
+    let undone = field_so _ (view at.e) (sym c.is_field.ensures ∙ c.if-is_field.true) c.undo_field-e.ensures in (
+      undo-turn _ _ _ _ (omega arith) at.k c.loop-k-test.true (omega arith) _ (both_undone _ _ _ _ _ _ (view at.e) (store_undone _ _ _ _ _ inv.2 (still_sound _ _ _ _ (omega arith) _ _ at.window inv.1 c.requires.1 (at.k - 1) (omega arith)) one.ensures) undone) ∙ inv.0,
+      omega (arith, one.auto.window),
+      line_as_long _ _ _ _ _ _ one.ensures (view at.e) ∙ inv.2,
+      ap (λ (d : Device). d.chip) undone ∙ mode_kept _ _ ∙ inv.3,
     )
 
-pub shape_of-window : goal.shape_of-window
-shape_of-window c = omega arith
+pub loop-k-preserved : goal.loop-k-preserved
+loop-k-preserved c =
+    let one = c.undo_store in
+    let at = c.loop-k in
+    let inv = at.invariant in
+    let undone = store_so _ (view at.e) (sym c.is_field.ensures ∙ c.if-is_field.false) refl in (
+      undo-turn _ _ _ _ (omega arith) at.k c.loop-k-test.true (omega arith) _ (both_undone _ _ _ _ _ _ (view at.e) (store_undone _ _ _ _ _ inv.2 (still_sound _ _ _ _ (omega arith) _ _ at.window inv.1 c.requires.1 (at.k - 1) (omega arith)) one.ensures) undone) ∙ inv.0,
+      omega (arith, one.auto.window),
+      line_as_long _ _ _ _ _ _ one.ensures (view at.e) ∙ inv.2,
+      ap (λ (d : Device). d.chip) undone ∙ mode_kept _ _ ∙ inv.3,
+    )
 
 pub returns : goal.returns
-returns c = sym (undo_none _ _ _ _ (omega arith)) ∙ c.loop-done.invariant.1
+returns c = sym (undo_none _ _ _ _ (omega arith)) ∙ c.loop-k.invariant.0

@@ -5,8 +5,8 @@ use Rattle.scan.proofs.field_head.Goals as goal
 pub returns-then-width-ne8 : goal.returns-then-width-ne8
 returns-then-width-ne8 c base = field_width _ _ _ _ c.if-width-ne8.true
 
-pub returns-in_default : goal.returns-in_default
-returns-in_default c base = field_none _ _ _ _ c.if-width-ne8.false c.field_bits.ensures.field c.in_default.is
+pub returns-in_err-bits : goal.returns-in_err-bits
+returns-in_err-bits c base = rw c.from_residual.ensures (field_none _ _ _ _ c.if-width-ne8.false c.field_bits.ensures.field c.in_err-bits.was)
 
 pub returns : goal.returns
-returns c base = field_wide _ _ _ _ c.if-width-ne8.false c.field_bits.ensures.field c.in-Some.is
+returns c base = field_wide _ _ _ _ c.if-width-ne8.false c.field_bits.ensures.field c.in_ok-bits.was

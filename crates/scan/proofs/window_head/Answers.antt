@@ -12,10 +12,10 @@ returns-then-not-is_memory_width c = wrong-width _ _ _ _ _ (sym c.is_memory_widt
 pub where_is-requires : goal.where_is-requires
 where_is-requires c = legal-most _ _ (sym c.is_memory_width.ensures ∙ c.if-not-is_memory_width.false)
 
-pub returns-in_default : goal.returns-in_default
-returns-in_default c =
-    outside _ _ _ _ _ (sym c.is_memory_width.ensures ∙ c.if-not-is_memory_width.false)
-    (not_inside _ _ _ _ c.where_is.ensures c.in_default.is)
+pub returns-in_err-where_is : goal.returns-in_err-where_is
+returns-in_err-where_is c =
+    rw c.from_residual.ensures (outside _ _ _ _ _ (sym c.is_memory_width.ensures ∙ c.if-not-is_memory_width.false)
+    (not_inside _ _ _ _ c.where_is.ensures c.in_err-where_is.was))
 
 pub overflow_mul-result : goal.overflow_mul-result
 overflow_mul-result c = record { fits = omega (arith, legal-most window c.args.width (sym c.is_memory_width.ensures ∙ c.if-not-is_memory_width.false)) }
@@ -23,4 +23,4 @@ overflow_mul-result c = record { fits = omega (arith, legal-most window c.args.w
 pub returns : goal.returns
 returns c =
     wide _ _ _ _ _ (sym c.is_memory_width.ensures ∙ c.if-not-is_memory_width.false)
-    (inside _ _ _ _ c.where_is.ensures c.in-Some.is)
+    (inside _ _ _ _ c.where_is.ensures c.in_ok-where_is.was)
