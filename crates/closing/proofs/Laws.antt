@@ -1,8 +1,9 @@
 -- Records one after the other: one by cases, a part's fields turn by turn and block by block, part after part. Assumes nothing.
 use Rattle.std.specs.Prelude.{Some, None}
 use mathlib.Core.Bool.{Bool, true, false}
-use mathlib.Core.List.{List, [], ◌∷◌, ◌++◌}
-use mathlib.Core.Path.{◌≡◌, refl, sym, ap, ◌∙◌}
+use mathlib.Core.List.{List, [], ◌∷◌, ◌++◌, map, map-id}
+use mathlib.Core.Logic.{◌⊎◌, inl, inr}
+use mathlib.Core.Path.{◌≡◌, refl, sym, ap, ap₂, ◌∙◌}
 use Prim.Native.Nat.{ℕ, zero, suc, ◌+◌, ◌-◌, ◌/◌, ◌≤◌, ◌<◌}
 use native.Mathlib.Nat.{add-suc, add-zero, suc-add, suc_inj, not-suc-le-zero, le_of_suc-le-suc, le_of_eq}
 use native.Mathlib.Numerals.{add-one}
@@ -11,7 +12,8 @@ use borrow.Author.Tests.{le-leb, lt-leb, eq-eqb, eqb-true, ne_eqb}
 use lib.Bits.{bit_or, bit_xor, or_add_and, xor_add_and, and_le_l, and_le_r}
 use lib.Dec.{eqb}
 use lib.ListN.{length, get_or, set, take, drop, length-take, length-drop, take-append-drop, drop_of_length-le}
-use lib.Seq.{take-suc, take_all, drop-cons, drop-drop}
+use lib.Seq.{take_all, drop-cons, drop-drop}
+use Rattle.std.proofs.lemmas.List.{length-map, map-append}
 use Rattle.rules.specs.Bytes.{splice}
 use Rattle.rules.specs.Carry.{Rec, stood_in, line, line_of, end_line, changed}
 use Rattle.closing.specs.Closes.{Noting, noting, add, add_all, add_end}
@@ -113,62 +115,84 @@ same-on n m ps xs ys s p f = part-on n m ps ps xs ys s refl p (none_changed n ps
 -- ---- turn by turn, for elements of every width
 
 -- the elements from i to e
-abbrev between : ℕ → ℕ → List ℕ → List ℕ
+abbrev between : {A : Type 0} → ℕ → ℕ → List A → List A
 between i e xs = take (e - i) (drop i xs)
 
-length_between : (i e : ℕ) (xs : List ℕ) → e ≤ length xs → length (between i e xs) ≡ e - i
-length_between i e xs h = simp (length-take, length-drop) (omega arith)
+module _ {A : Type 0} (n : A → ℕ) where
+  length_between : (i e : ℕ) (xs : List A) → e ≤ length xs → length (map n (between i e xs)) ≡ e - i
+  length_between i e xs h = simp (length-map, length-take, length-drop) (omega arith)
 
-cut : (i e : ℕ) (xs : List ℕ) → i ≤ e → drop i xs ≡ between i e xs ++ drop e xs
-cut i e xs h =
-    let n : i + (e - i) ≡ e = omega arith in
-    sym (take-append-drop (e - i) (drop i xs)) ∙ ap (λ (t : List ℕ). between i e xs ++ t) (drop-drop (e - i) i xs ∙ ap (λ (m : ℕ). drop m xs) n)
+  cut : (i e : ℕ) (xs : List A) → i ≤ e → map n (drop i xs) ≡ map n (between i e xs) ++ map n (drop e xs)
+  cut i e xs h =
+      let k : i + (e - i) ≡ e = omega arith in
+      ap (map n) (sym (take-append-drop (e - i) (drop i xs)) ∙ ap (λ (t : List A). between i e xs ++ t) (drop-drop (e - i) i xs ∙ ap (λ (m : ℕ). drop m xs) k))
+      ∙ map-append n (between i e xs) (drop e xs)
 
-to_length : (i : ℕ) (xs : List ℕ) → between i (length xs) xs ≡ drop i xs
-to_length i xs = take_all (length xs - i) (drop i xs) (omega (arith, length-drop i xs))
+  to_length : (i : ℕ) (xs : List A) → between i (length xs) xs ≡ drop i xs
+  to_length i xs = take_all (length xs - i) (drop i xs) (omega (arith, length-drop i xs))
 
-module _ (first : ℕ) (xs ys : List ℕ) where
-  pub turns_start : (s : Noting) → add_all (changed (first + 0) (drop 0 xs) (drop 0 ys)) s ≡ add_all (changed first xs ys) s
+  -- element i, which the number x is
+  head : (i : ℕ) (xs : List A) {a : A} {x : ℕ} → i < length xs → a ≡ get_or xs i a → x ≡ n a → map n (drop i xs) ≡ x ∷ map n (drop (suc i) xs)
+  head i xs {a} h p e = ap (map n) (drop-cons xs i a h) ∙ ap (λ (y : ℕ). y ∷ map n (drop (suc i) xs)) (ap n (sym p) ∙ sym e)
+
+  pub alike : (bs cs : List A) → length (map n bs) ≡ length (map n cs) → length bs ≡ length cs
+  alike bs cs e = sym (length-map bs n) ∙ e ∙ length-map cs n
+
+module _ {A : Type 0} (n : A → ℕ) (first : ℕ) (bs cs : List A) where
+  -- what is to note from element i on
+  abbrev from : ℕ → List Rec
+  from i = changed (first + i) (map n (drop i bs)) (map n (drop i cs))
+
+  pub turns_start : (s : Noting) → add_all (from 0) s ≡ add_all (changed first (map n bs) (map n cs)) s
   turns_start s = rw add-zero
 
-  module _ (i : ℕ) (s : Noting) {x y : ℕ} {r : Noted} {j : List ℕ} (h : i < length xs) (k : i < length ys) (p : x ≡ get_or xs i 0) (q : y ≡ get_or ys i 0)
-      (one : noting r j ≡ add_all (changed (first + i) (x ∷ []) (y ∷ [])) s)
+  module _ (i : ℕ) (s : Noting) {b c : A} {x y : ℕ} {r : Noted} {j : List ℕ} (l : length (map n bs) ≡ length (map n cs)) (h : i < length bs) (p : b ≡ get_or bs i b) (q : c ≡ get_or cs i c)
+      (u : x ≡ n b) (v : y ≡ n c) (one : noting r j ≡ add_all (changed (first + i) (x ∷ []) (y ∷ [])) s)
     where
-      then_rest : {o : Noting} → o ≡ add_all (changed (first + i + 1) (drop (suc i) xs) (drop (suc i) ys)) (noting r j) → o ≡ add_all (changed (first + i) (drop i xs) (drop i ys)) s
-      then_rest e = rw (drop-cons xs i 0 h, drop-cons ys i 0 k, ← p, ← q) (field_on (first + i) (first + i + 1) x y (drop (suc i) xs) (drop (suc i) ys) s refl one e)
+      then_rest : {o : Noting} → o ≡ add_all (changed (first + i + 1) (map n (drop (suc i) bs)) (map n (drop (suc i) cs))) (noting r j) → o ≡ add_all (from i) s
+      then_rest e =
+          let k : i < length cs = omega (arith, alike n bs cs l) in
+          rw (head n i bs h p u, head n i cs k q v)
+          (field_on (first + i) (first + i + 1) x y (map n (drop (suc i) bs)) (map n (drop (suc i) cs)) s refl one e)
 
-      pub turn : {at : ℕ} → r ≡ Some at
-          → add_all (changed (first + (i + 1)) (drop (i + 1) xs) (drop (i + 1) ys)) (noting (Some at) j) ≡ add_all (changed (first + i) (drop i xs) (drop i ys)) s
-      turn e = let n : first + (i + 1) ≡ first + i + 1 = omega arith in then_rest (rw (n, add-one i, e))
+      pub turn : {at : ℕ} → r ≡ Some at → add_all (from (i + 1)) (noting (Some at) j) ≡ add_all (from i) s
+      turn e = let m : first + (i + 1) ≡ first + i + 1 = omega arith in then_rest (rw (m, add-one i, e))
 
-      pub turn_full : r ≡ None → noting None j ≡ add_all (changed (first + i) (drop i xs) (drop i ys)) s
+      pub turn_full : r ≡ None → noting None j ≡ add_all (from i) s
       turn_full e = then_rest (stays_full _ j e)
 
   -- all from i to e in one go
-  module _ (i e : ℕ) (s : Noting) {r : Noted} {j : List ℕ} (h : i ≤ e) (k : e ≤ length xs) (l : e ≤ length ys)
-      (part : noting r j ≡ add_all (changed (first + i) (between i e xs) (between i e ys)) s)
+  module _ (i e : ℕ) (s : Noting) {r : Noted} {j : List ℕ} (l : length (map n bs) ≡ length (map n cs)) (h : i ≤ e) (k : e ≤ length bs)
+      (part : noting r j ≡ add_all (changed (first + i) (map n (between i e bs)) (map n (between i e cs))) s)
     where
-      then_on : {o : Noting} → o ≡ add_all (changed (first + e) (drop e xs) (drop e ys)) (noting r j) → o ≡ add_all (changed (first + i) (drop i xs) (drop i ys)) s
+      then_on : {o : Noting} → o ≡ add_all (from e) (noting r j) → o ≡ add_all (from i) s
       then_on f =
-          let m : length (between i e xs) ≡ e - i = length_between i e xs k in
-          let n : length (between i e ys) ≡ e - i = length_between i e ys l in
-          rw (cut i e xs h, cut i e ys h) (part-on (first + i) (first + e) (between i e xs) (between i e ys) (drop e xs) (drop e ys) s (m ∙ sym n) (omega arith) part f)
+          let m : length (map n (between i e bs)) ≡ e - i = length_between n i e bs k in
+          let o : length (map n (between i e cs)) ≡ e - i = length_between n i e cs (omega (arith, alike n bs cs l)) in
+          rw (cut n i e bs h, cut n i e cs h)
+          (part-on (first + i) (first + e) (map n (between i e bs)) (map n (between i e cs)) (map n (drop e bs)) (map n (drop e cs)) s (m ∙ sym o) (omega arith) part f)
 
-      pub block : {at : ℕ} → r ≡ Some at
-          → add_all (changed (first + e) (drop e xs) (drop e ys)) (noting (Some at) j) ≡ add_all (changed (first + i) (drop i xs) (drop i ys)) s
+      pub block : {at : ℕ} → r ≡ Some at → add_all (from e) (noting (Some at) j) ≡ add_all (from i) s
       block q = then_on (rw q)
 
-      pub block_full : r ≡ None → noting None j ≡ add_all (changed (first + i) (drop i xs) (drop i ys)) s
+      pub block_full : r ≡ None → noting None j ≡ add_all (from i) s
       block_full q = then_on (stays_full _ j q)
 
   -- and all from i on
   pub to_end : (i : ℕ) (s : Noting) {o : Noting}
-      → o ≡ add_all (changed (first + i) (between i (length xs) xs) (between i (length ys) ys)) s → o ≡ add_all (changed (first + i) (drop i xs) (drop i ys)) s
-  to_end i s e = e ∙ rw (to_length i xs, to_length i ys)
+      → o ≡ add_all (changed (first + i) (map n (between i (length bs) bs)) (map n (between i (length cs) cs))) s → o ≡ add_all (from i) s
+  to_end i s e = e ∙ rw (to_length n i bs, to_length n i cs)
 
-  pub turns-done : (i : ℕ) (s : Noting) → length xs ≤ i → s ≡ add_all (changed (first + i) (drop i xs) (drop i ys)) s
+  pub turns-done : (i : ℕ) (s : Noting) → length bs ≤ i → s ≡ add_all (from i) s
   unfolding changed add_all
-  turns-done i s h = rw (drop_of_length-le xs h)
+  turns-done i s h = rw (drop_of_length-le bs h)
+
+-- elements that are themselves the numbers
+pub numbers : {xs ys : List ℕ} → map (λ (x : ℕ). x) xs ≡ map (λ (x : ℕ). x) ys → xs ≡ ys
+numbers {xs} {ys} e = sym (map-id xs) ∙ e ∙ map-id ys
+
+pub plain : (n : ℕ) (xs ys : List ℕ) (s : Noting) {o : Noting} → o ≡ add_all (changed n (map (λ (x : ℕ). x) xs) (map (λ (x : ℕ). x) ys)) s → o ≡ add_all (changed n xs ys) s
+plain n xs ys s e = e ∙ ap₂ (λ (b a : List ℕ). add_all (changed n b a) s) (map-id xs) (map-id ys)
 
 -- ---- elements that are the same, of every width: where their XORs together are 0
 
@@ -178,16 +202,20 @@ or_none a b e = (omega (arith, or_add_and a b, and_le_r a b), omega (arith, or_a
 xor_none : (a b : ℕ) → bit_xor a b ≡ 0 → a ≡ b
 xor_none a b e = omega (arith, xor_add_and a b, and_le_l a b, and_le_r a b)
 
--- those passed so far, with o for their XORs together
-module _ (xs ys : List ℕ) (i o : ℕ) (so_far : o ≡ 0 → take i xs ≡ take i ys) where
-  pub same_more : i < length xs → i < length ys → bit_or o (bit_xor (get_or xs i 0) (get_or ys i 0)) ≡ 0 → take (i + 1) xs ≡ take (i + 1) ys
-  same_more h k e =
-      let both : (o ≡ 0) × (bit_xor (get_or xs i 0) (get_or ys i 0) ≡ 0) = or_none o (bit_xor (get_or xs i 0) (get_or ys i 0)) e in
-      rw (add-one i, take-suc xs i 0 h, take-suc ys i 0 k, so_far both.0, xor_none (get_or xs i 0) (get_or ys i 0) both.1)
+-- one pair more, of which x is the XOR, and o' all XORs so far together
+pub same_more : {A : Type 0} (n : A → ℕ) {bs cs bs' cs' : List A} {b c o x o' : A} {R : Type 0} → bs ≡ b ∷ bs' → cs ≡ c ∷ cs'
+    → n x ≡ bit_xor (n b) (n c) → n o' ≡ bit_or (n o) (n x) → (n o ≡ 0 → map n bs ≡ map n cs → R) → n o' ≡ 0 → map n bs' ≡ map n cs' → R
+same_more n {b = b} {c = c} {o = o} {x = x} p q f g k z e =
+    let both : (n o ≡ 0) × (n x ≡ 0) = or_none (n o) (n x) (sym g ∙ z) in
+    k both.0 (rw (p, q) (ap₂ (λ (u : ℕ) (v : List ℕ). u ∷ v) (xor_none (n b) (n c) (sym f ∙ both.1)) e))
 
-  -- once all are passed
-  pub same_all : eqb o 0 ≡ true → length xs ≤ i → length ys ≤ i → xs ≡ ys
-  same_all e h k = sym (take_all i xs h) ∙ so_far (eqb-true o 0 e) ∙ take_all i ys k
+-- none is left
+pub same_end : {A : Type 0} (n : A → ℕ) (bs cs : List A) → length bs ≡ length cs → (bs ≡ []) ⊎ (cs ≡ []) → map n bs ≡ map n cs
+same_end n [] [] l e = refl
+same_end n [] (c ∷ cs) l e = absurd (not-suc-le-zero (le_of_eq (sym l)))
+same_end n (b ∷ bs) [] l e = absurd (not-suc-le-zero (le_of_eq l))
+same_end n (b ∷ bs) (c ∷ cs) l (inl e) = absurd (not-suc-le-zero (le_of_eq (ap length e)))
+same_end n (b ∷ bs) (c ∷ cs) l (inr e) = absurd (not-suc-le-zero (le_of_eq (ap length e)))
 
 -- ---- the end record, by cases
 

@@ -1,5 +1,5 @@
 -- The fields in number order, part after part, with what no act changes between them. Assumes nothing.
-use mathlib.Core.List.{List, [], ◌∷◌, ◌++◌, append_assoc, append-nil}
+use mathlib.Core.List.{List, [], ◌∷◌, ◌++◌, append_assoc, append-nil, map}
 use mathlib.Core.Path.{◌≡◌, refl, sym, ap, ap₂, ◌∙◌}
 use Prim.Native.Nat.{ℕ, ◌+◌, ◌-◌}
 use native.Mathlib.Omega.{arith}
@@ -15,7 +15,11 @@ use Rattle.act.specs.Parts.{Arrays, whole, held_at, SameLevels}
 use Rattle.act.specs.declared.Core.{Core}
 use Rattle.closing.specs.Closes.{Noting, noting, add_all, Notes, Part, core_in, levels_in, order_in}
 use Rattle.closing.specs.Closes.{Noted}
-use Rattle.closing.proofs.Laws.{part-on, same-on, none_changed}
+use Rattle.closing.proofs.Laws.{part-on, same-on, none_changed, plain}
+
+-- a part whose elements are themselves the numbers
+pub of_numbers : {m n : ℕ} {b a : List ℕ} {s r : Noted} {j j' : List ℕ} → length b ≡ m → length a ≡ m → Notes n (map (λ (x : ℕ). x) b) (map (λ (x : ℕ). x) a) s r j j' → Part m n b a s r j j'
+of_numbers l k e = record { long = l; long_now = k; noted = plain _ _ _ _ e }
 
 -- a part, then the rest
 rest-on : (s : Noted) (j : List ℕ) (n k m : ℕ) (b a xs ys : List ℕ) {t : Noted} {i : List ℕ} {o : Noting} → n + m ≡ k → Part m n b a s t j i

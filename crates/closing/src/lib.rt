@@ -4,7 +4,8 @@
 // are the same. Only the end of the chain tells whether the act is made or refused.
 #![tactic(auto)]
 
-ghost use Rattle.std.specs.Prelude.{Some, true, false, ◌∷◌, [], ◌≡◌, ◌<◌, length};
+ghost use Rattle.std.specs.Prelude.{Some, true, false, ◌∷◌, [], ◌≡◌, ◌<◌, ℕ, length, map};
+ghost use Rattle.std.specs.Int.Bits.{bit_or, bit_xor};
 ghost use Rattle.rules.specs.View.{view_controller};
 ghost use Rattle.rules.specs.Carry.{line};
 ghost use Rattle.rules.specs.Scalars.{view_scalars};
@@ -16,6 +17,7 @@ ghost use Rattle.closing.specs.Closes.{noting, add, add_end, Notes, NotesOne, Pa
 
 use act::Core;
 use rules::{Controller, Scalars};
+use std::ops::{BitOr, BitXor};
 
 // Where the next record goes; or nowhere, since one did not fit: then nothing more happens.
 pub type Noted = Option<usize>;
@@ -62,234 +64,149 @@ pub fn note_end(s: Noted, used: usize, journal: &mut [u8]) -> Noted
 
 // ---- the fields of an array that differ: `first` is the number of its first element.
 // Most are the same at the end of an act, so an array is gone through in blocks, and only a block that differs goes element by element.
-// Four functions for each width of element: each element, whether all are the same, a block, all. One law for all widths (`turn`, `same_more` and
-// `block` of proofs/Laws).
+
+// What an array's elements are: numbers of some width.
+trait Element: Copy + Default + Into<u64> + BitXor<Output = Self> + BitOr<Output = Self> {
+    // The number that an element is.
+    ghost number: { Self → ℕ };
+
+    ghost converted: { (x : Self) (n : ℕ) → Self.converts x n → n ≡ number x };
+
+    ghost can_xor: { (x y : Self) → Self.can_bitxor x y };
+
+    ghost can_or: { (x y : Self) → Self.can_bitor x y };
+
+    ghost xored: { (x y z : Self) → Self.bitxor_gives x y z → number z ≡ bit_xor (number x) (number y) };
+
+    ghost ored: { (x y z : Self) → Self.bitor_gives x y z → number z ≡ bit_or (number x) (number y) };
+}
+
+impl Element for u64 {
+    ghost number = { λ x. x };
+
+    ghost converted = { λ x n e. e };
+
+    ghost can_xor = { λ x y. tt };
+
+    ghost can_or = { λ x y. tt };
+
+    ghost xored = { λ x y z e. e };
+
+    ghost ored = { λ x y z e. e };
+}
+
+impl Element for u32 {
+    ghost number = { λ x. x };
+
+    ghost converted = { λ x n e. e };
+
+    ghost can_xor = { λ x y. tt };
+
+    ghost can_or = { λ x y. tt };
+
+    ghost xored = { λ x y z e. e };
+
+    ghost ored = { λ x y z e. e };
+}
+
+impl Element for u8 {
+    ghost number = { λ x. x };
+
+    ghost converted = { λ x n e. e };
+
+    ghost can_xor = { λ x y. tt };
+
+    ghost can_or = { λ x y. tt };
+
+    ghost xored = { λ x y z e. e };
+
+    ghost ored = { λ x y z e. e };
+}
 
 // How many elements a block has.
 const BLOCK: usize = 16;
 
-fn note_each_wide(at: usize, before: &[u64], after: &[u64], first: u32, journal: &mut [u8]) -> Noted
-    requires { Noteworthy first before.now after.now }
-    ensures { Notes first before.now after.now (Some at) result ⇒ journal }
+fn note_each<T: Element>(at: usize, before: &[T], after: &[T], first: u32, journal: &mut [u8]) -> Noted
+    requires { Noteworthy first (map T.number before.now) (map T.number after.now) }
+    ensures { Notes first (map T.number before.now) (map T.number after.now) (Some at) result ⇒ journal }
 {
     let mut end = at;
-    let mut i = 0;
-    while i < before.len() {
-        end = note_one(end, first + i as u32, before[i], after[i], journal)?;
-        i += 1;
+    for i in 0..before.len() {
+        end = note_one(end, first + i as u32, before[i].into(), after[i].into(), journal)?;
     }
     Some(end)
 }
 
-// Whether elements are the same is asked once, of all XORs together: a test for each costs more. (The loop goes by the length and not by BLOCK: of
-// a loop whose length is known LLVM makes a test for each again.)
-fn same_wide(before: &[u64], after: &[u64]) -> bool
+// Whether elements are the same is asked once, of all XORs together: a test for each costs more, and so do XORs of 64 bits for narrower elements.
+fn same<T: Element>(before: &[T], after: &[T]) -> bool
     requires { length before.now ≡ length after.now }
-    ensures { result ≡ true → before.now ≡ after.now }
+    ensures { result ≡ true → map T.number before.now ≡ map T.number after.now }
 {
-    let mut other = 0;
-    let mut i = 0;
-    while i < before.len() {
-        other |= before[i] ^ after[i];
-        i += 1;
+    let mut other = T::default();
+    for (b, a) in before.iter().zip(after) {
+        other = other | (*b ^ *a);
     }
-    other == 0
+    let number: u64 = other.into();
+    number == 0
 }
 
-fn note_wide_block(
+fn note_block<T: Element>(
     at: usize,
-    before: &[u64],
-    after: &[u64],
+    before: &[T],
+    after: &[T],
     first: u32,
     journal: &mut [u8],
 ) -> Noted
-    requires { Noteworthy first before.now after.now }
-    ensures { Notes first before.now after.now (Some at) result ⇒ journal }
+    requires { Noteworthy first (map T.number before.now) (map T.number after.now) }
+    ensures { Notes first (map T.number before.now) (map T.number after.now) (Some at) result ⇒ journal }
 {
-    if same_wide(before, after) {
+    if same(before, after) {
         return Some(at);
     }
-    note_each_wide(at, before, after, first, journal)
+    note_each(at, before, after, first, journal)
 }
 
-fn note_wides(s: Noted, before: &[u64], after: &[u64], first: u32, journal: &mut [u8]) -> Noted
-    requires { Noteworthy first before.now after.now }
-    ensures { Notes first before.now after.now s result ⇒ journal }
+fn note_all<T: Element>(s: Noted, before: &[T], after: &[T], first: u32, journal: &mut [u8]) -> Noted
+    requires { Noteworthy first (map T.number before.now) (map T.number after.now) }
+    ensures { Notes first (map T.number before.now) (map T.number after.now) s result ⇒ journal }
 {
-    let start = s?;
-    let mut at = start;
-    let mut i = 0;
-    while i + BLOCK <= before.len() {
-        let end = i + BLOCK;
-        let b = &before[i..end];
-        let a = &after[i..end];
-        at = note_wide_block(at, b, a, first + i as u32, journal)?;
-        i = end;
+    let mut at = s?;
+    let blocks = before.len() / BLOCK;
+    for k in 0..blocks {
+        let i = k * BLOCK;
+        let b = &before[i..i + BLOCK];
+        let a = &after[i..i + BLOCK];
+        at = note_block(at, b, a, first + i as u32, journal)?;
     }
-    note_each_wide(at, &before[i..], &after[i..], first + i as u32, journal)
-}
-
-fn wide32(x: u32) -> u64
-    ensures { result ≡ x }
-{
-    x as u64
-}
-
-fn note_each_word(at: usize, before: &[u32], after: &[u32], first: u32, journal: &mut [u8]) -> Noted
-    requires { Noteworthy first before.now after.now }
-    ensures { Notes first before.now after.now (Some at) result ⇒ journal }
-{
-    let mut end = at;
-    let mut i = 0;
-    while i < before.len() {
-        end = note_one(
-            end,
-            first + i as u32,
-            wide32(before[i]),
-            wide32(after[i]),
-            journal,
-        )?;
-        i += 1;
-    }
-    Some(end)
-}
-
-fn same_word(before: &[u32], after: &[u32]) -> bool
-    requires { length before.now ≡ length after.now }
-    ensures { result ≡ true → before.now ≡ after.now }
-{
-    let mut other = 0;
-    let mut i = 0;
-    while i < before.len() {
-        other |= before[i] ^ after[i];
-        i += 1;
-    }
-    other == 0
-}
-
-fn note_word_block(
-    at: usize,
-    before: &[u32],
-    after: &[u32],
-    first: u32,
-    journal: &mut [u8],
-) -> Noted
-    requires { Noteworthy first before.now after.now }
-    ensures { Notes first before.now after.now (Some at) result ⇒ journal }
-{
-    if same_word(before, after) {
-        return Some(at);
-    }
-    note_each_word(at, before, after, first, journal)
-}
-
-fn note_words(s: Noted, before: &[u32], after: &[u32], first: u32, journal: &mut [u8]) -> Noted
-    requires { Noteworthy first before.now after.now }
-    ensures { Notes first before.now after.now s result ⇒ journal }
-{
-    let start = s?;
-    let mut at = start;
-    let mut i = 0;
-    while i + BLOCK <= before.len() {
-        let end = i + BLOCK;
-        let b = &before[i..end];
-        let a = &after[i..end];
-        at = note_word_block(at, b, a, first + i as u32, journal)?;
-        i = end;
-    }
-    note_each_word(at, &before[i..], &after[i..], first + i as u32, journal)
-}
-
-fn wide8(x: u8) -> u64
-    ensures { result ≡ x }
-{
-    x as u64
-}
-
-fn note_each_byte(at: usize, before: &[u8], after: &[u8], first: u32, journal: &mut [u8]) -> Noted
-    requires { Noteworthy first before.now after.now }
-    ensures { Notes first before.now after.now (Some at) result ⇒ journal }
-{
-    let mut end = at;
-    let mut i = 0;
-    while i < before.len() {
-        end = note_one(
-            end,
-            first + i as u32,
-            wide8(before[i]),
-            wide8(after[i]),
-            journal,
-        )?;
-        i += 1;
-    }
-    Some(end)
-}
-
-fn same_byte(before: &[u8], after: &[u8]) -> bool
-    requires { length before.now ≡ length after.now }
-    ensures { result ≡ true → before.now ≡ after.now }
-{
-    let mut other = 0;
-    let mut i = 0;
-    while i < before.len() {
-        other |= before[i] ^ after[i];
-        i += 1;
-    }
-    other == 0
-}
-
-fn note_byte_block(at: usize, before: &[u8], after: &[u8], first: u32, journal: &mut [u8]) -> Noted
-    requires { Noteworthy first before.now after.now }
-    ensures { Notes first before.now after.now (Some at) result ⇒ journal }
-{
-    if same_byte(before, after) {
-        return Some(at);
-    }
-    note_each_byte(at, before, after, first, journal)
-}
-
-fn note_bytes(s: Noted, before: &[u8], after: &[u8], first: u32, journal: &mut [u8]) -> Noted
-    requires { Noteworthy first before.now after.now }
-    ensures { Notes first before.now after.now s result ⇒ journal }
-{
-    let start = s?;
-    let mut at = start;
-    let mut i = 0;
-    while i + BLOCK <= before.len() {
-        let end = i + BLOCK;
-        let b = &before[i..end];
-        let a = &after[i..end];
-        at = note_byte_block(at, b, a, first + i as u32, journal)?;
-        i = end;
-    }
-    note_each_byte(at, &before[i..], &after[i..], first + i as u32, journal)
+    let i = blocks * BLOCK;
+    note_each(at, &before[i..], &after[i..], first + i as u32, journal)
 }
 
 // "64+ch busy". Few runs change any, so all are looked at together first.
 pub fn note_busy(s: Noted, before: &[u64; 64], after: &[u64; 64], journal: &mut [u8]) -> Noted
     ensures { Part 64 64 before.now after.now s result ⇒ journal }
 {
-    if same_wide(before, after) {
+    if same(before, after) {
         return s;
     }
-    note_wides(s, before, after, 64, journal)
+    note_all(s, before, after, 64, journal)
 }
 
 // "128+ch majors".
 pub fn note_majors(s: Noted, before: &[u64; 64], after: &[u64; 64], journal: &mut [u8]) -> Noted
     ensures { Part 64 128 before.now after.now s result ⇒ journal }
 {
-    note_wides(s, before, after, 128, journal)
+    note_all(s, before, after, 128, journal)
 }
 
 // "192+ch pending": as busy times.
 pub fn note_pending(s: Noted, before: &[u32; 64], after: &[u32; 64], journal: &mut [u8]) -> Noted
     ensures { Part 64 192 before.now after.now s result ⇒ journal }
 {
-    if same_word(before, after) {
+    if same(before, after) {
         return s;
     }
-    note_words(s, before, after, 192, journal)
+    note_all(s, before, after, 192, journal)
 }
 
 // The same of an act that can have changed the count of one channel alone.
@@ -297,7 +214,7 @@ pub fn note_count(s: Noted, channel: u32, before: u32, after: u32, journal: &mut
     requires { channel < 64 }
     ensures { NotesOne 64 192 channel before after s result ⇒ journal }
 {
-    note_field(s, 192 + channel, wide32(before), wide32(after), journal)
+    note_field(s, 192 + channel, u64::from(before), u64::from(after), journal)
 }
 
 // "Six-bit fields 768 + channel": of an act that can have changed the priority of one channel alone.
@@ -305,14 +222,14 @@ pub fn note_priority(s: Noted, channel: u32, before: u8, after: u8, journal: &mu
     requires { channel < 64 }
     ensures { NotesOne 64 768 channel before after s result ⇒ journal }
 {
-    note_field(s, 768 + channel, wide8(before), wide8(after), journal)
+    note_field(s, 768 + channel, u64::from(before), u64::from(after), journal)
 }
 
 // "512+v taken (v 64..255)".
 pub fn note_taken(s: Noted, before: &[u64; 192], after: &[u64; 192], journal: &mut [u8]) -> Noted
     ensures { Part 192 576 before.now after.now s result ⇒ journal }
 {
-    note_wides(s, before, after, 576, journal)
+    note_all(s, before, after, 576, journal)
 }
 
 // ---- the fields that are not in arrays
@@ -321,9 +238,10 @@ pub fn note_taken(s: Noted, before: &[u64; 192], after: &[u64; 192], journal: &m
 fn note_scalars(s: Noted, before: Scalars, after: Scalars, journal: &mut [u8]) -> Noted
     ensures { Notes 0 (view_scalars before) (view_scalars after) s result ⇒ journal }
 {
+    let at = s?;
     let b = device::listed(before);
     let a = device::listed(after);
-    note_wides(s, &b, &a, 0, journal)
+    note_each(at, &b, &a, 0, journal)
 }
 
 // "16+4c IMR, then FRC, lines, ICONFIG": of the controller whose first number is `first`.
@@ -343,8 +261,8 @@ fn note_own(
     note_field(
         lines,
         first + 3,
-        before.config as u64,
-        after.config as u64,
+        u64::from(before.config),
+        u64::from(after.config),
         journal,
     )
 }
@@ -392,7 +310,7 @@ fn note_level(
     requires { first < 512 }
     ensures { Part 64 first before.levels after.levels s result ⇒ journal }
 {
-    note_bytes(s, &before.levels, &after.levels, first, journal)
+    note_all(s, &before.levels, &after.levels, first, journal)
 }
 
 // Those of all three.

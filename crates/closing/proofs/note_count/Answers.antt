@@ -13,5 +13,5 @@ returns c counts long is =
       long_now = length-set counts a.channel a.after ∙ long;
       noted =
           one_changed 192 _ counts a.channel _ _ a.after _ (omega (arith, long, c.requires))
-          (c.wide32.ensures ∙ sym is) c.wide32-2.ensures refl c.note_field.ensures;
+          (c.from.ensures ∙ sym is) c.from-2.ensures refl c.note_field.ensures;
     }

@@ -3,8 +3,8 @@ use Rattle.closing.proofs.Laws.{end_full, end_at_lem}
 use native.Mathlib.Omega.{arith}
 use Rattle.closing.proofs.note_end.Goals as goal
 
-pub returns-in_default : goal.returns-in_default
-returns-in_default c = end_full _ _ c.in_default.is
+pub returns-in_err-at : goal.returns-in_err-at
+returns-in_err-at c = rw c.from_residual.ensures (end_full _ _ c.in_err-at.was)
 
 pub returns : goal.returns
-returns c = end_at_lem _ _ _ _ c.in-Some.is (omega (arith, c.span-records.ensures)) c.note.ensures
+returns c = end_at_lem _ _ _ _ c.in_ok-at.was (omega (arith, c.span-records.ensures)) c.note.ensures

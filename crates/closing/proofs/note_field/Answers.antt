@@ -2,8 +2,8 @@
 use Rattle.closing.proofs.Laws.{stays_full, told_at}
 use Rattle.closing.proofs.note_field.Goals as goal
 
-pub returns-in_default : goal.returns-in_default
-returns-in_default c = stays_full _ _ c.in_default.is
+pub returns-in_err-at : goal.returns-in_err-at
+returns-in_err-at c = rw c.from_residual.ensures (stays_full _ _ c.in_err-at.was)
 
 pub returns : goal.returns
-returns c = told_at _ _ _ c.in-Some.is c.note_one.ensures
+returns c = told_at _ _ _ c.in_ok-at.was c.note_one.ensures

@@ -8,4 +8,4 @@ returns c =
     field_on _ _ _ _ _ _ _ (omega arith) c.note_field-masks.ensures
     (field_on _ _ _ _ _ _ _ (omega arith) c.note_field-forced.ensures
     (field_on _ _ _ _ _ _ _ (omega arith) c.note_field-lines.ensures
-    c.note_field.ensures))
+    (rw (c.from.ensures, c.from-2.ensures) at c.note_field.ensures)))

@@ -13,5 +13,5 @@ returns c order long is =
       long_now = length-set order a.channel a.after ∙ long;
       noted =
           one_changed 768 _ order a.channel _ _ a.after _ (omega (arith, long, c.requires))
-          (c.wide8.ensures ∙ sym is) c.wide8-2.ensures refl c.note_field.ensures;
+          (c.from.ensures ∙ sym is) c.from-2.ensures refl c.note_field.ensures;
     }

@@ -2,13 +2,11 @@
 use mathlib.Core.Path.{sym, ap, ◌∙◌}
 use native.Mathlib.Omega.{arith}
 use lib.ListN.{length}
+use Rattle.closing.proofs.Laws.{stays_full, told_at, plain}
 use Rattle.closing.proofs.note_scalars.Goals as goal
 
-pub note_wides-requires : goal.note_wides-requires
-note_wides-requires c =
-    let b = ap length c.listed-b.ensures in
-    let a = ap length c.listed-a.ensures in
-    record { alike = b ∙ sym a; places = omega (arith, b) }
+pub returns-in_err-at : goal.returns-in_err-at
+returns-in_err-at c = rw c.from_residual.ensures (stays_full _ _ c.in_err-at.was)
 
 pub returns : goal.returns
-returns c = rw (← c.listed-b.ensures, ← c.listed-a.ensures) c.note_wides.ensures
+returns c = told_at _ _ _ c.in_ok-at.was (rw (← c.listed-b.ensures, ← c.listed-a.ensures) (plain _ _ _ _ c.note_each.ensures))
