@@ -26,7 +26,7 @@ loop-k-preserved-then-is_field c =
     let at = c.loop-k in
     let inv = at.invariant in
     let undone = field_so _ (view at.e) (sym c.is_field.ensures ∙ c.if-is_field.true) c.undo_field-e.ensures in (
-      undo-turn _ _ _ _ (omega arith) at.k c.loop-k-test.true (omega arith) _ (both_undone _ _ _ _ _ _ (view at.e) (store_undone _ _ _ _ _ inv.2 (still_sound _ _ _ _ (omega arith) _ _ at.window inv.1 c.requires.1 (at.k - 1) (omega arith)) one.ensures) undone) ∙ inv.0,
+      undo-turn c.args.base c.args.stands.now c.args.from c.args.count (omega arith) at.k c.loop-k-test.true (omega arith) _ (both_undone _ _ _ _ _ _ (view at.e) (store_undone _ _ _ _ _ inv.2 (still_sound _ _ _ _ (omega arith) _ _ at.window inv.1 c.requires.1 (at.k - 1) (omega arith)) one.ensures) undone) ∙ inv.0,
       omega (arith, one.auto.window),
       line_as_long _ _ _ _ _ _ one.ensures (view at.e) ∙ inv.2,
       ap (λ (d : Device). d.chip) undone ∙ mode_kept _ _ ∙ inv.3,
@@ -38,7 +38,7 @@ loop-k-preserved c =
     let at = c.loop-k in
     let inv = at.invariant in
     let undone = store_so _ (view at.e) (sym c.is_field.ensures ∙ c.if-is_field.false) refl in (
-      undo-turn _ _ _ _ (omega arith) at.k c.loop-k-test.true (omega arith) _ (both_undone _ _ _ _ _ _ (view at.e) (store_undone _ _ _ _ _ inv.2 (still_sound _ _ _ _ (omega arith) _ _ at.window inv.1 c.requires.1 (at.k - 1) (omega arith)) one.ensures) undone) ∙ inv.0,
+      undo-turn c.args.base c.args.stands.now c.args.from c.args.count (omega arith) at.k c.loop-k-test.true (omega arith) _ (both_undone _ _ _ _ _ _ (view at.e) (store_undone _ _ _ _ _ inv.2 (still_sound _ _ _ _ (omega arith) _ _ at.window inv.1 c.requires.1 (at.k - 1) (omega arith)) one.ensures) undone) ∙ inv.0,
       omega (arith, one.auto.window),
       line_as_long _ _ _ _ _ _ one.ensures (view at.e) ∙ inv.2,
       ap (λ (d : Device). d.chip) undone ∙ mode_kept _ _ ∙ inv.3,
