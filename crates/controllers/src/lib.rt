@@ -15,7 +15,7 @@ ghost use Rattle.controllers.specs.Waiting.{waiting_in};
 ghost use Rattle.controllers.specs.Works.{Works, Answered, Hears};
 
 use act::Core;
-use rules::{Controller, Heard};
+use rules::{Controller, Heard, Source};
 
 // ---- DMA-owned lines
 
@@ -34,7 +34,7 @@ pub fn owned_from(c: usize, other: u64, lines: u64) -> u64
 fn any(m: u64) -> u64
     ensures { (result ≡ (if nat_eq m 0 then 0 else 1)) × (result < 2) }
 {
-    if m == 0 { 0 } else { 1 }
+    u64::from(m != 0)
 }
 
 // "INT bits 0..15 drive controller 0 lines 8..23; 16..55 controller 1 lines 8..47; any of 56..63 controller 2 line 0."
@@ -62,23 +62,16 @@ pub fn deliverable(k: Controller, ignore: bool) -> u64
 
 // ---- level
 
-// The higher of two levels.
-fn higher(a: u8, b: u8) -> u8
-    ensures { result ≡ max a b }
-{
-    if a < b { b } else { a }
-}
-
 // "The level is the highest of the deliverable sources' low 3 bits, or 0": of the sources in `m`.
 pub fn loudest(levels: &[u8], m: u64) -> u8
     requires { length levels.now ≡ 64 }
     ensures { result ≡ loudest levels.now m 64 }
 {
-    let mut best = 0;
+    let mut best: u8 = 0;
     let mut p = m;
     while p != 0 {
         let s = words::lowest_bit(p);
-        best = higher(best, levels[s] % 8);
+        best = best.max(levels[s] % 8);
         p = words::lose_bit(p, s);
     }
     best
@@ -115,8 +108,8 @@ pub fn relevelled(controllers: [Controller; 3], int: u64, ignore: bool) -> Level
     let x = driven_by(int, 0, controllers[0]);
     let y = driven_by(int, 1, controllers[1]);
     let z = driven_by(int, 2, controllers[2]);
-    let low = higher(level_of(y, ignore), level_of(x, ignore));
-    let level = higher(level_of(z, ignore), low);
+    let low = level_of(y, ignore).max(level_of(x, ignore));
+    let level = level_of(z, ignore).max(low);
     let mut all = controllers;
     all[0] = x;
     all[1] = y;
@@ -225,8 +218,11 @@ fn hear(loud: Loud, taken: &mut [u64; 192]) -> Heard
         return None;
     }
     let at = loud.at;
-    taken[at] = std::num::wrapping_add_u64(taken[at], 1);
-    Heard::Source(loud.level, (64 + at) as u8)
+    taken[at] = taken[at].wrapping_add(1);
+    Some(Source {
+        level: loud.level,
+        vector: (64 + at) as u8,
+    })
 }
 
 // The controllers are searched in rising order, and what is found is heard.
@@ -260,10 +256,8 @@ pub fn waiting(standing: u64, pending: &[u32]) -> u64
     ensures { result ≡ waiting_in pending.now 64 0 standing }
 {
     let mut m = standing;
-    let mut i = 0;
-    while i < 64 {
+    for i in 0..64 {
         m = waits(m, pending[i], i);
-        i += 1;
     }
     m
 }

@@ -16,9 +16,10 @@ use Rattle.rules.specs.Bytes.{number, part}
 use Rattle.rules.specs.Carry.{Out, Lent}
 use Rattle.rules.specs.Fields.{bits_of, bits_in, holds, with_field}
 use Rattle.rules.specs.Registers.{named, flag_one, flag_each, set_requests, set_starts, command, commands}
+use Rattle.rules.specs.Minor.{START}
 use Rattle.rules.specs.Run.{requesting}
 use Rattle.rules.specs.With.{with_scalars, with_table, with_majors}
-use Rattle.rules.specs.Words.{has, without}
+use Rattle.rules.specs.Words.{has, gain, without}
 use Rattle.rules.specs.declared.Scalars.{Scalars}
 use Rattle.rules.proofs.Masks.{without_le}
 use Rattle.act.specs.Does.{Answers, Does}
@@ -29,7 +30,7 @@ use Rattle.act.proofs.DoesLaws.{answers_bind, answers_then, does-change}
 use Rattle.act.proofs.Laws.{on_then, then, on-nothing, fetched}
 use Rattle.controllers.specs.Waiting.{waiting_in}
 use Rattle.controllers.proofs.InputLaws.{requesting-answers}
-use Rattle.dma_commands.specs.Commands.{flagged, OnNumbers}
+use Rattle.dma_commands.specs.Commands.{OnNumbers}
 
 -- ---- masks
 
@@ -86,9 +87,9 @@ module _ (base : ℕ) (lent : Lent) where
   numbers_done m d c n w j t l going e h = rw going (sym (h (with_majors (with_table d t) l) e base lent w (take c.at j) (drop c.at j)))
 
   pub starts : (v : ℕ) (o : Out (Unit {0})) {m : ℕ} {r p : Out (Unit {0})} → m ≡ named v → r ≡ on base lent (when true (change KICK (λ k. bit_or k m))) p
-      → p ≡ on base lent (flag_each (flagged true) m 64 0) o → r ≡ on base lent (set_starts v) o
-  unfolding set_starts flagged when
-  starts v o e f g = then base lent (flag_each (flagged true) (named v) 64 0) (change KICK (λ k. bit_or k (named v))) o (rw e at f) (rw e at g)
+      → p ≡ on base lent (flag_each (λ b. gain b START) m 64 0) o → r ≡ on base lent (set_starts v) o
+  unfolding set_starts when
+  starts v o e f g = then base lent (flag_each (λ b. gain b START) (named v) 64 0) (change KICK (λ k. bit_or k (named v))) o (rw e at f) (rw e at g)
 
   pub in_row : (k v : ℕ) (o : Out (Unit {0})) {p q r x : Out (Unit {0})} → p ≡ on base lent (command k (v / 2 ^ 24 % 256)) o → q ≡ on base lent (command (k + 1) (v / 2 ^ 16 % 256)) p
       → r ≡ on base lent (command (k + 2) (v / 2 ^ 8 % 256)) q → x ≡ on base lent (command (k + 3) (v % 256)) r → x ≡ on base lent (commands k v) o

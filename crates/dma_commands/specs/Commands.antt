@@ -1,22 +1,19 @@
 -- What functions promise that carry out commands: that they do an act's steps, on any device with the pending counts p. (SERQ asks who
 -- requests.) Assumes nothing.
-use Rattle.std.specs.Prelude.{Bool, true, false, List, ◌≡◌, ℕ}
+use Rattle.std.specs.Prelude.{List, ◌≡◌, ◌<◌, ℕ}
 use Rattle.rules.specs.Act.{Act}
 use Rattle.rules.specs.Carry.{Lent}
-use Rattle.rules.specs.Minor.{START, DONE}
 use Rattle.rules.specs.Scalars.{view_scalars}
 use Rattle.rules.specs.State.{Device}
 use Rattle.rules.specs.With.{with_scalars}
-use Rattle.rules.specs.Words.{gain, lose}
 use Rattle.rules.specs.declared.Scalars.{Scalars}
 use Rattle.act.specs.Does.{Does}
 use Rattle.act.specs.Worlds.{came_to, on}
 use Rattle.act.specs.Worlds.{Step}
 
--- what a flag command does to a descriptor's last byte
-unfoldable pub flagged : Bool → ℕ → ℕ
-flagged true = λ b. gain b START
-flagged false = λ b. lose b DONE
+-- of a function of a descriptor's last byte: that it makes g of it, where post says what it makes
+abbrev pub Makes : (ℕ → ℕ → Type 0) → (ℕ → ℕ) → Type 0
+Makes post g = (b r : ℕ) → b < 256 → post b r → r ≡ g b
 
 -- of a function that changes the numbers that stand alone
 abbrev pub OnNumbers : Act (Unit {0}) → List ℕ → Scalars → Scalars → Type 0

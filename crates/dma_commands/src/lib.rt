@@ -1,14 +1,14 @@
 // The command bytes of the DMA registers, 0x18 to 0x1F: what each does to the device's numbers and table, and to the journal.
 #![tactic(auto)]
 
-ghost use Rattle.std.specs.Prelude.{◌≡◌, ◌<◌, ◌≤◌};
+ghost use Rattle.std.specs.Prelude.{◌≡◌, ◌<◌, ◌≤◌, ℕ};
 ghost use Rattle.std.specs.Int.Bits.{bit_or};
 ghost use Rattle.rules.specs.Act.{change, when};
 ghost use Rattle.rules.specs.Scalars.{KICK};
 ghost use Rattle.rules.specs.Registers.{flag_one, flag_each, set_requests, set_starts, clear_dones, command, commands};
 ghost use Rattle.act.specs.Lent.{◌⇒◌};
 ghost use Rattle.act.specs.Worlds.{OnTable, OnScalars};
-ghost use Rattle.dma_commands.specs.Commands.{flagged, OnNumbers, Commands};
+ghost use Rattle.dma_commands.specs.Commands.{Makes, OnNumbers, Commands};
 
 use act::Step;
 use rules::{DONE, START, Scalars};
@@ -20,10 +20,11 @@ fn set_requests(n: Scalars, pending: &[u32; 64], v: u32) -> Scalars
     ensures { OnNumbers (set_requests v) pending.now n result }
 {
     let m = masks::named(v);
-    let mut e = n;
-    e.erq = n.erq | m;
-    e.kick = n.kick | (m & controllers::waiting(n.standing, pending));
-    e
+    Scalars {
+        erq: n.erq | m,
+        kick: n.kick | (m & controllers::waiting(n.standing, pending)),
+        ..n
+    }
 }
 
 // SERQ, CERQ, SEEI, CEEI, CINT, CERR: a mask gains or loses the named channels.
@@ -32,29 +33,28 @@ fn scalar_command(n: Scalars, pending: &[u32; 64], k: u32, v: u32) -> Scalars
     ensures { OnNumbers (command k v) pending.now n result }
 {
     let m = masks::named(v);
-    let mut e = n;
     match k {
         0 => set_requests(n, pending, v),
-        1 => {
-            e.erq = words::without(n.erq, m);
-            e
-        }
-        2 => {
-            e.eei = n.eei | m;
-            e
-        }
-        3 => {
-            e.eei = words::without(n.eei, m);
-            e
-        }
-        4 => {
-            e.int = words::without(n.int, m);
-            e
-        }
-        _ => {
-            e.err = words::without(n.err, m);
-            e
-        }
+        1 => Scalars {
+            erq: words::without(n.erq, m),
+            ..n
+        },
+        2 => Scalars {
+            eei: n.eei | m,
+            ..n
+        },
+        3 => Scalars {
+            eei: words::without(n.eei, m),
+            ..n
+        },
+        4 => Scalars {
+            int: words::without(n.int, m),
+            ..n
+        },
+        _ => Scalars {
+            err: words::without(n.err, m),
+            ..n
+        },
     }
 }
 
@@ -62,59 +62,47 @@ fn scalar_command(n: Scalars, pending: &[u32; 64], k: u32, v: u32) -> Scalars
 pub fn with_kick(s: Step, on: bool, m: u64) -> Step
     ensures { OnScalars (when on (change KICK (λ k. bit_or k m))) s result }
 {
-    let Step::Going(c) = s else {
-        return s;
-    };
-    if !on {
-        return s;
+    let mut c = s?;
+    if on {
+        c.scalars.kick |= m;
     }
-    let kick = c.scalars.kick | m;
-    let mut f = c;
-    f.scalars.kick = kick;
-    Step::Going(f)
+    Ok(c)
 }
 
 // ---- commands that change flags of descriptors
 
-// A descriptor's last byte with START, or without DONE.
-fn flagged(start: bool, b: u64) -> u64
-    ensures { result ≡ flagged start b }
-{
-    if start {
-        return words::gain_bit(b, START);
-    }
-    words::lose_bit(b, DONE)
-}
-
-// "A START or DONE bit is one of width 1 at 0x1F": of channel `ch`, where it is `on`.
-fn flag_one(
+// "A START or DONE bit is one of width 1 at 0x1F": of channel `ch`, whose last byte becomes what `flagged` makes of it.
+fn flag_one<F: Fn(u64) -> u64>(
     s: Step,
     table: &mut [u8; 2048],
-    start: bool,
-    on: bool,
+    flagged: &F,
     ch: usize,
     journal: &mut [u8],
 ) -> Step
-    requires { ch < 64 }
-    ensures { OnTable (when on (flag_one (flagged start) ch)) s result ⇒ journal ⇒ table }
+    requires { (ch < 64) × F.IsAlwaysCallable flagged.now }
+    ensures { (g : ℕ → ℕ) → Makes (F.post flagged.now) g → OnTable (flag_one g ch) s result ⇒ journal ⇒ table }
 {
-    if !on {
-        return s;
-    }
     let place = 32 * ch + 0x1F;
-    let b = words::get1(table, place) as u64;
-    journal::store_table(s, table, place, 1, flagged(start, b), journal)
+    let b = u64::from(words::get1(table, place));
+    journal::store_table(s, table, place, 1, flagged(b), journal)
 }
 
 // "Channels rising": of those in `m`.
-fn flag_each(s: Step, table: &mut [u8; 2048], start: bool, m: u64, journal: &mut [u8]) -> Step
-    ensures { OnTable (flag_each (flagged start) m 64 0) s result ⇒ journal ⇒ table }
+fn flag_each<F: Fn(u64) -> u64>(
+    s: Step,
+    table: &mut [u8; 2048],
+    flagged: F,
+    m: u64,
+    journal: &mut [u8],
+) -> Step
+    requires { F.IsAlwaysCallable flagged }
+    ensures { (g : ℕ → ℕ) → Makes (F.post flagged) g → OnTable (flag_each g m 64 0) s result ⇒ journal ⇒ table }
 {
     let mut t = s;
-    let mut ch = 0;
-    while ch < 64 {
-        t = flag_one(t, table, start, words::has_bit(m, ch), ch, journal);
-        ch += 1;
+    for ch in 0..64 {
+        if words::has_bit(m, ch) {
+            t = flag_one(t, table, &flagged, ch, journal);
+        }
     }
     t
 }
@@ -124,14 +112,21 @@ fn set_starts(s: Step, table: &mut [u8; 2048], v: u32, journal: &mut [u8]) -> St
     ensures { OnTable (set_starts v) s result ⇒ journal ⇒ table }
 {
     let m = masks::named(v);
-    with_kick(flag_each(s, table, true, m, journal), true, m)
+    let started = flag_each(s, table, |b| words::gain_bit(b, START), m, journal);
+    with_kick(started, true, m)
 }
 
 // CDNE: the named channels lose DONE.
 fn clear_dones(s: Step, table: &mut [u8; 2048], v: u32, journal: &mut [u8]) -> Step
     ensures { OnTable (clear_dones v) s result ⇒ journal ⇒ table }
 {
-    flag_each(s, table, false, masks::named(v), journal)
+    flag_each(
+        s,
+        table,
+        |b| words::lose_bit(b, DONE),
+        masks::named(v),
+        journal,
+    )
 }
 
 // ---- any command
@@ -152,14 +147,9 @@ pub fn command(
         6 => set_starts(s, table, v, journal),
         7 => clear_dones(s, table, v, journal),
         _ => {
-            let Step::Going(c) = s else {
-                return s;
-            };
-            let n = c.scalars;
-            let scalars = scalar_command(n, pending, k, v);
-            let mut f = c;
-            f.scalars = scalars;
-            Step::Going(f)
+            let mut c = s?;
+            c.scalars = scalar_command(c.scalars, pending, k, v);
+            Ok(c)
         }
     }
 }

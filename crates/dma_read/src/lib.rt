@@ -18,11 +18,10 @@ pub fn tcd_read(d: Device, off: u32, size: u32) -> u32
     ensures { result ≡ number (part d.table off size) }
 {
     let at = off as usize;
-    let table = d.table;
     match size {
-        1 => words::get1(&table, at) as u32,
-        2 => words::get2(&table, at) as u32,
-        _ => words::get4(&table, at),
+        1 => u32::from(words::get1(&d.table, at)),
+        2 => u32::from(words::get2(&d.table, at)),
+        _ => words::get4(&d.table, at),
     }
 }
 
@@ -30,7 +29,7 @@ pub fn tcd_read(d: Device, off: u32, size: u32) -> u32
 fn low_six(x: u8) -> u32
     ensures { result ≡ x % 64 }
 {
-    (x % 64) as u32
+    u32::from(x % 64)
 }
 
 // A byte: the command bytes read 0; in the chip's mode priorities are readable too ([10]).
@@ -39,16 +38,15 @@ fn read_byte(d: Device, off: u32) -> Cell
     ensures { reads result ≡ dma_read (view d) off 1 }
 {
     if masks::within(0x18, 0x1F, off) {
-        return Cell::Value(0);
+        return Some(0);
     }
     if !d.chip {
-        return Cell::Nothing;
+        return None;
     }
     if masks::within(0x100, 0x13F, off) {
-        let priorities = d.priorities;
-        return Cell::Value(low_six(priorities[(off - 0x100) as usize]));
+        return Some(low_six(d.priorities[(off - 0x100) as usize]));
     }
-    Cell::Nothing
+    None
 }
 
 // A word: CR, ES (always 0), half of ERQ, EEI, INT or ERR, and the two words of HRS, which read 0.
@@ -57,19 +55,19 @@ fn read_word(d: Device, off: u32) -> Cell
     ensures { reads result ≡ dma_read (view d) off 4 }
 {
     match off {
-        0x00 => Cell::Value(d.scalars.cr),
-        0x04 => Cell::Value(0),
-        0x08 => Cell::Value(masks::bytes_in(0, 4, d.scalars.erq)),
-        0x0C => Cell::Value(masks::bytes_in(4, 4, d.scalars.erq)),
-        0x10 => Cell::Value(masks::bytes_in(0, 4, d.scalars.eei)),
-        0x14 => Cell::Value(masks::bytes_in(4, 4, d.scalars.eei)),
-        0x20 => Cell::Value(masks::bytes_in(0, 4, d.scalars.int)),
-        0x24 => Cell::Value(masks::bytes_in(4, 4, d.scalars.int)),
-        0x28 => Cell::Value(masks::bytes_in(0, 4, d.scalars.err)),
-        0x2C => Cell::Value(masks::bytes_in(4, 4, d.scalars.err)),
-        0x30 => Cell::Value(0),
-        0x34 => Cell::Value(0),
-        _ => Cell::Nothing,
+        0x00 => Some(d.scalars.cr),
+        0x04 => Some(0),
+        0x08 => Some(masks::bytes_in(0, 4, d.scalars.erq)),
+        0x0C => Some(masks::bytes_in(4, 4, d.scalars.erq)),
+        0x10 => Some(masks::bytes_in(0, 4, d.scalars.eei)),
+        0x14 => Some(masks::bytes_in(4, 4, d.scalars.eei)),
+        0x20 => Some(masks::bytes_in(0, 4, d.scalars.int)),
+        0x24 => Some(masks::bytes_in(4, 4, d.scalars.int)),
+        0x28 => Some(masks::bytes_in(0, 4, d.scalars.err)),
+        0x2C => Some(masks::bytes_in(4, 4, d.scalars.err)),
+        0x30 => Some(0),
+        0x34 => Some(0),
+        _ => None,
     }
 }
 
@@ -79,11 +77,11 @@ pub fn edma_read(d: Device, off: u32, size: u32) -> Cell
     ensures { reads result ≡ dma_read (view d) off size }
 {
     if masks::within(0x1000, 0x17FF, off) {
-        return Cell::Value(tcd_read(d, off - 0x1000, size));
+        return Some(tcd_read(d, off - 0x1000, size));
     }
     match size {
         1 => read_byte(d, off),
         4 => read_word(d, off),
-        _ => Cell::Nothing,
+        _ => None,
     }
 }

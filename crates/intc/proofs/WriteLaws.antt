@@ -8,7 +8,7 @@ use native.Mathlib.Nat.{pow-suc, div-one, div-div-eq-div-mul}
 use native.Mathlib.Omega.{arith}
 use borrow.Author.Tests.{lt-ltb, le-ltb, ltb-true, ltb-false, eqb-true, eqb-false, ne_eqb}
 use lib.Dec.{eqb, ltb}
-use lib.ListN.{length, set, length-set}
+use lib.ListN.{length, set, get_or, length-set}
 use lib.Seq.{set-set, set-get_or, set_out, get_or-set_same}
 use Rattle.rules.specs.State.{Controller, Device}
 use Rattle.rules.specs.Act.{Act, nothing, put, change, when, ◌>>=◌, MASKS, FORCED, CONFIG, SOURCE}
@@ -20,7 +20,7 @@ use Rattle.rules.specs.View.{view_controller}
 use Rattle.rules.specs.declared.Controller.{Controller as HeldController}
 use Rattle.rules.specs.With.{with_controllers, with_masks, with_forced, with_config, with_levels}
 use Rattle.rules.proofs.BytesLaws.{length_splice, splice_cons}
-use Rattle.rules.proofs.ViewLaws.{map_set, controller_viewed}
+use Rattle.rules.proofs.ViewLaws.{map_set, no_held, controller_viewed}
 use Rattle.act.specs.Does.{Does}
 use Rattle.act.specs.Parts.{Arrays, whole, held_at}
 use Rattle.act.specs.declared.Core.{Core}
@@ -174,6 +174,14 @@ pub written_held : (write : ℕ → Option (Act (Unit {0}))) (c : ℕ) (k : Core
 written_held write c k x known e l w =
     rw (map_set view_controller k.controllers c e)
     (written-device write c (whole k x) known (view_controller e) l (subst (λ (n : Controller). WrittenIn write n known (view_controller e)) (sym (controller_viewed k.controllers c)) w))
+
+-- where there is no such register
+pub unwritten_held : (write : ℕ → Option (Act (Unit {0}))) (c : ℕ) (k : Core) (x : Arrays) → c < length (whole k x).controllers
+    → WrittenIn write (held_at k c) false (held_at k c) → Written (write c) (whole k x) false (whole k x)
+unwritten_held write c k x l w =
+    let at : HeldController = get_or k.controllers c no_held in
+    subst (λ (cs : List HeldController). Written (write c) (whole k x) false (with_controllers (whole k x) (map view_controller cs)))
+    (set-get_or k.controllers c no_held) (written_held write c k x false at l w)
 
 -- ---- arms that are no ranges
 

@@ -1,8 +1,7 @@
 -- What a register read answers, as the rules have it. Assumes nothing.
 use Rattle.std.proofs.Math.Option.{Option, none, some}
-use Rattle.std.specs.Prelude.{ℕ}
-use Rattle.intc.specs.declared.Cell.{Cell}
+use Rattle.std.specs.Prelude.{ℕ, Option as Held, Some, None}
 
-abbrev pub reads : Cell → Option ℕ
-reads (Cell.Value v) = some v
-reads Cell.Nothing = none
+abbrev pub reads : Held ℕ → Option ℕ
+reads (Some v) = some v
+reads None = none

@@ -2,7 +2,7 @@
 // one number at a time. Quoted words are document 01's.
 #![tactic(auto)]
 
-ghost use Rattle.std.specs.Prelude.{◌≡◌, ◌≤◌, ◌<◌, set};
+ghost use Rattle.std.specs.Prelude.{◌≡◌, ◌≤◌, ◌<◌, set, is_some, unwrap_or};
 ghost use Rattle.rules.specs.View.{view_controller};
 ghost use Rattle.rules.specs.Bytes.{bytes, splice};
 ghost use Rattle.rules.specs.Registers.{controller_read, controller_write};
@@ -18,31 +18,19 @@ use rules::Controller;
 // ---- reads
 
 // What a register holds, or that there is no such register.
-#[derive(Clone, Copy)]
-pub enum Cell {
-    Value(u32),
-    Nothing,
-}
-
-// A byte as a word.
-fn wide(x: u8) -> u32
-    ensures { result ≡ x }
-{
-    x as u32
-}
+pub type Cell = Option<u32>;
 
 // A byte: a source's level, or one of the command bytes, which read 0.
 fn read_byte(k: Controller, off: u32) -> Cell
     ensures { reads result ≡ controller_read (view_controller k) off 1 }
 {
     if masks::within(0x40, 0x7F, off) {
-        let levels = k.levels;
-        return Cell::Value(wide(levels[(off - 0x40) as usize]));
+        return Some(u32::from(k.levels[(off - 0x40) as usize]));
     }
     if masks::within(0x1C, 0x1F, off) {
-        return Cell::Value(0);
+        return Some(0);
     }
-    Cell::Nothing
+    None
 }
 
 // A half word: ICONFIG.
@@ -50,8 +38,8 @@ fn read_half(k: Controller, off: u32) -> Cell
     ensures { reads result ≡ controller_read (view_controller k) off 2 }
 {
     match off {
-        0x18 => Cell::Value(k.config as u32),
-        _ => Cell::Nothing,
+        0x18 => Some(u32::from(k.config)),
+        _ => None,
     }
 }
 
@@ -60,13 +48,13 @@ fn read_word(k: Controller, off: u32) -> Cell
     ensures { reads result ≡ controller_read (view_controller k) off 4 }
 {
     match off {
-        0x00 => Cell::Value(masks::bytes_in(0, 4, k.lines | k.forced)),
-        0x04 => Cell::Value(masks::bytes_in(4, 4, k.lines | k.forced)),
-        0x08 => Cell::Value(masks::bytes_in(0, 4, k.masks)),
-        0x0C => Cell::Value(masks::bytes_in(4, 4, k.masks)),
-        0x10 => Cell::Value(masks::bytes_in(0, 4, k.forced)),
-        0x14 => Cell::Value(masks::bytes_in(4, 4, k.forced)),
-        _ => Cell::Nothing,
+        0x00 => Some(masks::bytes_in(0, 4, k.lines | k.forced)),
+        0x04 => Some(masks::bytes_in(4, 4, k.lines | k.forced)),
+        0x08 => Some(masks::bytes_in(0, 4, k.masks)),
+        0x0C => Some(masks::bytes_in(4, 4, k.masks)),
+        0x10 => Some(masks::bytes_in(0, 4, k.forced)),
+        0x14 => Some(masks::bytes_in(4, 4, k.forced)),
+        _ => None,
     }
 }
 
@@ -78,18 +66,11 @@ pub fn intc_read(k: Controller, off: u32, size: u32) -> Cell
         1 => read_byte(k, off),
         2 => read_half(k, off),
         4 => read_word(k, off),
-        _ => Cell::Nothing,
+        _ => None,
     }
 }
 
-// ---- writes
-
-// A controller after a write, and whether there is such a register.
-#[derive(Clone, Copy)]
-pub struct Kept {
-    pub known: bool,
-    pub controller: Controller,
-}
+// ---- writes: the controller after one, or none where there is no such register and it is unchanged
 
 // Source `s` with another level byte; there is none past 63.
 fn with_level(k: Controller, s: usize, b: u8) -> Controller
@@ -109,9 +90,7 @@ fn with_levels(k: Controller, s: usize, size: usize, v: u32) -> Controller
 {
     let mut e = k;
     let mut rest = v;
-    let mut i = size;
-    while 0 < i {
-        i -= 1;
+    for i in (0..size).rev() {
         e = with_level(e, s + i, (rest % 256) as u8);
         rest = rest / 256;
     }
@@ -119,126 +98,82 @@ fn with_levels(k: Controller, s: usize, size: usize, v: u32) -> Controller
 }
 
 // A half word: ICONFIG.
-fn half_written(k: Controller, off: u32, v: u32) -> Kept
-    ensures { WrittenIn (command_at off 2 v) (view_controller k) result.known (view_controller result.controller) }
+fn half_written(k: Controller, off: u32, v: u32) -> Option<Controller>
+    ensures { WrittenIn (command_at off 2 v) (view_controller k) (is_some result) (view_controller (unwrap_or result k)) }
 {
     match off {
         0x18 => {
             let mut e = k;
             e.config = (v % 0x10000) as u16;
-            Kept {
-                known: true,
-                controller: e,
-            }
+            Some(e)
         }
-        _ => Kept {
-            known: false,
-            controller: k,
-        },
+        _ => None,
     }
 }
 
 // A byte: SIMR masks sources, CIMR unmasks them, and two do nothing.
-fn byte_written(k: Controller, off: u32, v: u32) -> Kept
-    ensures { WrittenIn (command_at off 1 v) (view_controller k) result.known (view_controller result.controller) }
+fn byte_written(k: Controller, off: u32, v: u32) -> Option<Controller>
+    ensures { WrittenIn (command_at off 1 v) (view_controller k) (is_some result) (view_controller (unwrap_or result k)) }
 {
     match off {
         0x1C => {
             let mut e = k;
-            e.masks = k.masks | masks::named(v);
-            Kept {
-                known: true,
-                controller: e,
-            }
+            e.masks |= masks::named(v);
+            Some(e)
         }
         0x1D => {
             let mut e = k;
             e.masks = words::without(k.masks, masks::named(v));
-            Kept {
-                known: true,
-                controller: e,
-            }
+            Some(e)
         }
-        0x1E | 0x1F => Kept {
-            known: true,
-            controller: k,
-        },
-        _ => Kept {
-            known: false,
-            controller: k,
-        },
+        0x1E | 0x1F => Some(k),
+        _ => None,
     }
 }
 
 // Those that are no ranges of offsets, by size.
-fn command_written(k: Controller, off: u32, size: u32, v: u32) -> Kept
-    ensures { WrittenIn (command_at off size v) (view_controller k) result.known (view_controller result.controller) }
+fn command_written(k: Controller, off: u32, size: u32, v: u32) -> Option<Controller>
+    ensures { WrittenIn (command_at off size v) (view_controller k) (is_some result) (view_controller (unwrap_or result k)) }
 {
     match size {
         1 => byte_written(k, off, v),
         2 => half_written(k, off, v),
-        _ => Kept {
-            known: false,
-            controller: k,
-        },
+        _ => None,
     }
 }
 
 // "Registers are exactly the arms of [..] `intc_write`", on one controller. "`intc_write` calling itself becomes a merge and one store": byte
 // and word writes into the 32-bit registers. That they stay in one, the caller has tested: else it is refusal 4.
-pub fn controller_written(k: Controller, off: u32, size: u32, v: u32) -> Kept
+pub fn controller_written(k: Controller, off: u32, size: u32, v: u32) -> Option<Controller>
     requires { (0 < size) × (size ≤ 4) × InWord off size }
-    ensures { WrittenIn (write_to off size v) (view_controller k) result.known (view_controller result.controller) }
+    ensures { WrittenIn (write_to off size v) (view_controller k) (is_some result) (view_controller (unwrap_or result k)) }
 {
     let mut e = k;
     let n = size as usize;
     if masks::within(0x00, 0x07, off) {
-        return Kept {
-            known: true,
-            controller: k,
-        };
+        return Some(k);
     }
     if masks::within(0x08, 0x0F, off) {
         e.masks = masks::with_bytes_in((off - 0x08) as usize, n, v, k.masks);
-        return Kept {
-            known: true,
-            controller: e,
-        };
+        return Some(e);
     }
     if masks::within(0x10, 0x17, off) {
         e.forced = masks::with_bytes_in((off - 0x10) as usize, n, v, k.forced);
-        return Kept {
-            known: true,
-            controller: e,
-        };
+        return Some(e);
     }
     if masks::within(0x40, 0x7F, off) {
-        return Kept {
-            known: true,
-            controller: with_levels(k, (off - 0x40) as usize, n, v),
-        };
+        return Some(with_levels(k, (off - 0x40) as usize, n, v));
     }
     command_written(k, off, size, v)
 }
 
-// A device's core after a write, and whether there is such a register.
-#[derive(Clone, Copy)]
-pub struct Wrote {
-    pub known: bool,
-    pub core: Core,
-}
-
-// A write to controller `c`. Where there is no such register, the core is unchanged.
-pub fn intc_write(k: Core, c: usize, off: u32, size: u32, v: u32) -> Wrote
+// A write to controller `c`, and the core after it. Where there is no such register, there is no core after it: the caller's is unchanged.
+pub fn intc_write(k: Core, c: usize, off: u32, size: u32, v: u32) -> Option<Core>
     requires { (c < 3) × (0 < size) × (size ≤ 4) × InWord off size }
-    ensures { (x : Arrays) → Proper (whole k x) → Written (controller_write c off size v) (whole k x) result.known (whole result.core x) }
+    ensures { (x : Arrays) → Proper (whole k x) → Written (controller_write c off size v) (whole k x) (is_some result) (whole (unwrap_or result k) x) }
 {
-    let w = controller_written(k.controllers[c], off, size, v);
+    let written = controller_written(k.controllers[c], off, size, v)?;
     let mut e = k;
-    let written = w.controller;
     e.controllers[c] = written;
-    Wrote {
-        known: w.known,
-        core: e,
-    }
+    Some(e)
 }

@@ -8,4 +8,4 @@ pub returns-then-loud-eq0 : goal.returns-then-loud-eq0
 returns-then-loud-eq0 c d = hear-nothing _ _ _ c.if-loud-eq0.true
 
 pub returns : goal.returns
-returns c d = hear_source (with_taken d _) _ _ c.if-loud-eq0.false c.wrapping_add_u64.ensures.value refl
+returns c d = hear_source (with_taken d _) _ _ c.if-loud-eq0.false refl refl

@@ -17,7 +17,7 @@ loop-p-preserved c =
     let l = c.loop-p in
     let set = lowest_set l.p (omega arith) l.invariant.0 c.lowest_bit-s.ensures.0 in
     let less = walk_less l.p _ set c.lose_bit-p.ensures in
-    (omega arith, loudest-turn _ _ set c.lose_bit-p.ensures _ _ _ c.lowest_bit-s.ensures.1 c.higher-best.ensures l.invariant.1)
+    (omega arith, loudest-turn _ _ set c.lose_bit-p.ensures _ _ _ c.lowest_bit-s.ensures.1 c.max-best.ensures l.invariant.1)
 
 pub returns : goal.returns
 returns c = loudest_end _ _ c.loop-p.p _ c.loop-p-test.false c.loop-p.invariant.1

@@ -6,4 +6,4 @@ pub returns : goal.returns
 returns c =
     let a = c.args in
     made_anew a.ignore a.int a.controllers c.driven_by-x.ensures c.driven_by-y.ensures c.driven_by-z.ensures
-    c.level_of-2.ensures c.level_of.ensures c.level_of-3.ensures c.higher-low.ensures c.higher-level.ensures
+    c.level_of-2.ensures c.level_of.ensures c.level_of-3.ensures c.max-low.ensures c.max-level.ensures

@@ -1,11 +1,11 @@
 -- `dma_commands::command` meets its contract: flags of descriptors, or numbers that stand alone. Assumes nothing.
 use Rattle.dma_commands.proofs.Laws.{numbers_done}
-use Rattle.act.proofs.Laws.{stays}
+use Rattle.act.proofs.Laws.{stays_refused}
 use Rattle.rules.specs.Registers.{command}
 use Rattle.dma_commands.proofs.command.Goals as goal
 
-pub returns-in_default-s : goal.returns-in_default-s
-returns-in_default-s c base lent d w m e = stays base lent _ d w _ _ m c.in_default-s.is
+pub returns-in_err-c-in_default : goal.returns-in_err-c-in_default
+returns-in_err-c-in_default c base lent d w m e = stays_refused base lent _ c.from_residual.result d w _ _ m c.from_residual.ensures c.in_err-c-in_default.was
 
 pub returns-in-6 : goal.returns-in-6
 unfolding command
@@ -15,5 +15,5 @@ pub returns-in-7 : goal.returns-in-7
 unfolding command
 returns-in-7 c base lent d w m e = rw c.in-7.is (c.clear_dones.ensures base lent d w m)
 
-pub returns-in-Ok : goal.returns-in-Ok
-returns-in-Ok c base lent d w m e = numbers_done base lent _ d _ _ w _ _ m c.in-Ok.is e c.scalar_command-scalars.ensures
+pub returns-in_ok-c-in_default : goal.returns-in_ok-c-in_default
+returns-in_ok-c-in_default c base lent d w m e = numbers_done base lent _ d _ _ w _ _ m c.in_ok-c-in_default.was e c.scalar_command-c.ensures

@@ -1,15 +1,17 @@
--- `dma_commands::flag_each` meets its contract. Assumes nothing.
+-- `dma_commands::flag_each` meets its contract: a channel of the mask is flagged, any other is passed over. Assumes nothing.
 use native.Mathlib.Omega.{arith}
 use Rattle.dma_commands.proofs.Laws.{flag_turn, flag_end}
-use mathlib.Core.Path.{refl}
+use Rattle.act.proofs.Laws.{passed, taken}
 use Rattle.dma_commands.proofs.flag_each.Goals as goal
-
-pub loop-ch-init : goal.loop-ch-init
-loop-ch-init c = (omega arith, refl, λ base lent d w l. refl)
+use Rattle.dma_commands.proofs.flag_each.Goals.{then-has_bit, else-has_bit}
 
 pub loop-ch-preserved : goal.loop-ch-preserved
-loop-ch-preserved c =
-    (omega arith, omega arith, λ base lent d w l. flag_turn base lent _ _ c.loop-ch.ch _ (c.loop-ch.invariant.2 base lent d w l) c.loop-ch-test.true c.has_bit.ensures (c.flag_one-t.ensures base lent d w l))
+loop-ch-preserved g c made makes base lent d v x =
+    flag_turn base lent made _ c.loop-ch.ch _ (c.loop-ch.invariant made makes base lent d v x) c.loop-ch-test.true c.has_bit.ensures
+    (elim c.if-has_bit.branch [
+      | then-has_bit w ↦ taken base lent _ _ _ w.if-has_bit.true (rw (w.t-is, w.journal-is, w.table-is) (w.flag_one-t.ensures made makes base lent d v x))
+      | else-has_bit w ↦ rw (w.t-is, w.journal-is, w.table-is) (passed base lent _ _ _ w.if-has_bit.false)
+    ])
 
 pub returns : goal.returns
-returns c base lent d w l = flag_end base lent _ _ c.loop-ch.ch _ (c.loop-ch.invariant.2 base lent d w l) (omega arith)
+returns g c made makes base lent d w l = flag_end base lent made _ c.loop-ch.ch _ (c.loop-ch.invariant made makes base lent d w l) (omega arith)

@@ -22,11 +22,5 @@ read_byte-requires c = in_table_lem _ c.within.ensures c.if-within.false
 pub read_word-requires : goal.read_word-requires
 read_word-requires c = in_table_lem _ c.within.ensures c.if-within.false
 
-pub returns-in-1 : goal.returns-in-1
-returns-in-1 c = rw c.in-1.is c.read_byte.ensures
-
-pub returns-in-4 : goal.returns-in-4
-returns-in-4 c = rw c.in-4.is c.read_word.ensures
-
 pub returns-in_default : goal.returns-in_default
 returns-in_default c = read_no-size _ _ (in_table_lem _ c.within.ensures c.if-within.false) _ c.in_default.in_default-own.rest.0.1 c.in_default.in_default-own.rest.1

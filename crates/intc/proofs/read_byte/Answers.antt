@@ -8,11 +8,11 @@ use Rattle.intc.proofs.read_byte.Goals as goal
 pub overflow_sub-off : goal.overflow_sub-off
 overflow_sub-off c = omega (arith, within_true _ _ _ (sym c.within.ensures ∙ c.if-within.true))
 
-pub bounds-levels-off : goal.bounds-levels-off
-bounds-levels-off c = omega (arith, within_true _ _ _ (sym c.within.ensures ∙ c.if-within.true))
+pub bounds-k-off : goal.bounds-k-off
+bounds-k-off c = omega (arith, within_true _ _ _ (sym c.within.ensures ∙ c.if-within.true))
 
 pub returns-then-within : goal.returns-then-within
-returns-then-within c = rw c.wide.ensures (read_level _ _ (sym c.within.ensures ∙ c.if-within.true))
+returns-then-within c = rw c.from.ensures (read_level _ _ (sym c.within.ensures ∙ c.if-within.true))
 
 pub returns-then-within-2 : goal.returns-then-within-2
 returns-then-within-2 c = read_command _ _ (sym c.within.ensures ∙ c.if-within.false) (sym c.within-2.ensures ∙ c.if-within-2.true)

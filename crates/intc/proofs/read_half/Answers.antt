@@ -6,7 +6,7 @@ use Rattle.intc.proofs.read_half.Goals as goal
 
 pub returns-in-24 : goal.returns-in-24
 unfolding controller_read look_up controller_cells
-returns-in-24 c = rw c.in-24.is
+returns-in-24 c = rw (c.from.ensures, c.in-24.is)
 
 pub returns-in_default : goal.returns-in_default
 unfolding controller_read look_up controller_cells

@@ -2,12 +2,9 @@
 use Rattle.rules.specs.View.{view_controller}
 use Rattle.rules.specs.With.{with_levels}
 use Rattle.rules.specs.Bytes.{bytes, splice}
-use Prim.Native.Nat.{◌+◌, ◌-◌, ◌/◌, ◌^◌, ◌≤◌}
+use Prim.Native.Nat.{◌+◌, ◌-◌, ◌/◌, ◌^◌}
 use mathlib.Core.Path.{◌≡◌}
 use Rattle.intc.proofs.with_levels.Given as goal
 
 abbrev pub invariant-loop-i : goal.invariant-loop-i
-invariant-loop-i l = (l.i ≤ l.size) × (l.rest ≡ l.v / 256 ^ (l.size - l.i)) × (view_controller l.e ≡ with_levels (view_controller l.initial.e) (splice l.initial.e.levels (l.s + l.i) (bytes (l.size - l.i) l.v)))
-
-abbrev pub decreases-loop-i : goal.decreases-loop-i
-decreases-loop-i l = l.i
+invariant-loop-i l = (l.rest ≡ l.v / 256 ^ (l.size - l.i)) × (view_controller l.e ≡ with_levels (view_controller l.initial.e) (splice l.initial.e.levels (l.s + l.i) (bytes (l.size - l.i) l.v)))
