@@ -26,6 +26,7 @@ use Rattle.act.specs.Worlds.{came_to}
 use Rattle.act.specs.declared.Core.{Core}
 use Rattle.act.specs.declared.Done.{Done}
 use Rattle.act.specs.declared.Flow.{Flow}
+use Rattle.act.specs.declared.Stopped.{Stopped}
 use Rattle.act.specs.Worlds.{Step}
 use Rattle.act.specs.Worlds.{Walk}
 use Rattle.closing.specs.Closes.{noting, add_all, add_end, Notes, Part, core_in, levels_in, closed, Closes}
@@ -90,7 +91,9 @@ module _ (base : ℕ) (lent : Lent) (act : Act (Unit {0})) (d : Device) (w j₀ 
     pub settled_off : {s : Step} {stopped : Stopped Flow} → s ≡ Err stopped → came_to s (whole k x) w' j x.table x.majors ≡ go base lent act u
         → Settled k x s (record { walk = Err (record { why = stopped.why; at = stopped.at.at }); core = k }) base lent act d w j₀ w' j used
     unfolding came_to
-    settled_off {why = why} {c = c} f goes =
+    settled_off {stopped = stopped} f goes =
+        let why = stopped.why in
+        let c = stopped.at in
         let e = whole (record { scalars = c.scalars; controllers = k.controllers; ignore_masks = k.ignore_masks }) x in
         let went : go base lent act u ≡ no (refusal_number why) (world_of e w' j c.at) = sym (rw f at goes) in
         record {

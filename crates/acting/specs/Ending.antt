@@ -1,5 +1,6 @@
 -- How acts end, on a device in parts, for every base, window and staging. Assumes nothing.
 use Rattle.std.specs.Prelude.{Bool, false, List, ◌++◌, ◌≡◌, ℕ, ◌-◌, ◌≤◌, min, length, take, replicate, None, Ok, Err, Some}
+use Rattle.std.specs.Result.{result_ok}
 use Rattle.rules.specs.Act.{Act}
 use Rattle.rules.specs.Calls.{told_after, refusal_number, world_of, levelled}
 use Rattle.rules.specs.Carry.{Out, ok, no, go, leave, perform, Lent}
@@ -44,8 +45,7 @@ end_at (Err stopped) = stopped.at
 
 -- where its last records begin
 abbrev pub begun_at : Walk → Noted
-begun_at (Ok at) = Some at
-begun_at (Err stopped) = None
+begun_at w = result_ok w
 
 -- ---- what it answers
 
