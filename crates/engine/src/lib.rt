@@ -91,8 +91,8 @@ fn run_all(
     ensures { RunsAll again chip priorities.now clock.now clock.pace base t result ⇒ window ⇒ staging ⇒ journal ⇒ table ⇒ busy ⇒ majors ⇒ pending }
 {
     let s = take_turns(
-        again, chip, t, clock, base, window, table, busy, majors, pending, priorities,
-        staging, journal,
+        again, chip, t, clock, base, window, table, busy, majors, pending, priorities, staging,
+        journal,
     );
     let len = staging.len();
     words::clear(staging, 0, len);

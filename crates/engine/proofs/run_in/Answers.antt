@@ -14,6 +14,13 @@ returns-in_default c x p =
     let a = c.args in
     refused_told a.base _ _ _ _ a.used (call_of a.again a.time a.pace) _ (c.tested-v.ensures ∙ sym (asked_wrong a.base _ _ a.used a.time a.pace a.again)) c.in_default.is
 
+-- the clock that refusal 7 lets through
+pub invariant_of-carried : goal.invariant_of-carried
+invariant_of-carried c =
+    let a = c.args in
+    let r = right a.base _ _ a.used a.time a.pace (sym c.tested-v.ensures ∙ ap verdict_number c.in-Ok.is) in
+    record { now_bounded = r.early; pace_bounded = r.slow }
+
 pub carried-r-requires : goal.carried-r-requires
 carried-r-requires c =
     let a = c.args in
