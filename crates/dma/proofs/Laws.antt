@@ -2,6 +2,7 @@
 use mathlib.Core.Bool.{Bool, true, false, cond, not, ◌&&◌}
 use mathlib.Core.List.{List}
 use mathlib.Core.Option.{none, some}
+use mathlib.Core.Logic.{◌⊎◌, inl, inr}
 use mathlib.Core.Path.{◌≡◌, refl, sym, ◌∙◌}
 use Prim.Native.Nat.{ℕ, ◌+◌, ◌-◌, ◌*◌, ◌/◌, ◌^◌, ◌≤◌, ◌<◌}
 use borrow.Author.Tests.{ne_eqb}
@@ -70,6 +71,28 @@ module _ (off v : ℕ) where
     pub write_word : dma_write off 4 v ≡ pick off 4 (dma_arms v)
     unfolding dma_write
     write_word = rw e
+
+    -- the words that are registers, as code lists them
+    abbrev word : Type 0
+    word = off ≡ 0x00 ⊎ (off ≡ 0x08 ⊎ (off ≡ 0x0C ⊎ (off ≡ 0x10 ⊎ (off ≡ 0x14 ⊎ (off ≡ 0x18 ⊎ (off ≡ 0x1C ⊎ (off ≡ 0x20 ⊎ (off ≡ 0x24 ⊎ (off ≡ 0x28 ⊎ (off ≡ 0x2C))))))))))
+
+    pub word-there : word → true ≡ not (is_none (dma_write off 4 v))
+    unfolding pick dma_arms is_none
+    word-there (inl e) = rw (write_word, e)
+    word-there (inr (inl e)) = rw (write_word, e)
+    word-there (inr (inr (inl e))) = rw (write_word, e)
+    word-there (inr (inr (inr (inl e)))) = rw (write_word, e)
+    word-there (inr (inr (inr (inr (inl e))))) = rw (write_word, e)
+    word-there (inr (inr (inr (inr (inr (inl e)))))) = rw (write_word, e)
+    word-there (inr (inr (inr (inr (inr (inr (inl e))))))) = rw (write_word, e)
+    word-there (inr (inr (inr (inr (inr (inr (inr (inl e)))))))) = rw (write_word, e)
+    word-there (inr (inr (inr (inr (inr (inr (inr (inr (inl e))))))))) = rw (write_word, e)
+    word-there (inr (inr (inr (inr (inr (inr (inr (inr (inr (inl e)))))))))) = rw (write_word, e)
+    word-there (inr (inr (inr (inr (inr (inr (inr (inr (inr (inr e)))))))))) = rw (write_word, e)
+
+    pub word-none : (word → ⊥) → false ≡ not (is_none (dma_write off 4 v))
+    unfolding pick dma_arms is_none
+    word-none never_one = rw write_word (simp (ne_eqb off 0x00 (λ e. never_one (inl e)), ne_eqb off 0x08 (λ e. never_one (inr (inl e))), ne_eqb off 0x0C (λ e. never_one (inr (inr (inl e)))), ne_eqb off 0x10 (λ e. never_one (inr (inr (inr (inl e))))), ne_eqb off 0x14 (λ e. never_one (inr (inr (inr (inr (inl e)))))), ne_eqb off 0x18 (λ e. never_one (inr (inr (inr (inr (inr (inl e))))))), ne_eqb off 0x1C (λ e. never_one (inr (inr (inr (inr (inr (inr (inl e)))))))), ne_eqb off 0x20 (λ e. never_one (inr (inr (inr (inr (inr (inr (inr (inl e))))))))), ne_eqb off 0x24 (λ e. never_one (inr (inr (inr (inr (inr (inr (inr (inr (inl e)))))))))), ne_eqb off 0x28 (λ e. never_one (inr (inr (inr (inr (inr (inr (inr (inr (inr (inl e))))))))))), ne_eqb off 0x2C (λ e. never_one (inr (inr (inr (inr (inr (inr (inr (inr (inr (inr e)))))))))))))
 
     pub write_none : (size : ℕ) → (size ≡ 1 → ⊥) → (size ≡ 4 → ⊥) → dma_write off size v ≡ none
     unfolding dma_write pick dma_arms

@@ -20,30 +20,17 @@ fn byte_known(off: u32) -> bool
     requires { in_table off ≡ false }
     ensures { (v : ℕ) → result ≡ not (is_none (dma_write off 1 v)) }
 {
-    if masks::within(0x18, 0x1F, off) {
-        return true;
-    }
-    masks::within(0x100, 0x13F, off)
+    masks::within(0x18, 0x1F, off) || masks::within(0x100, 0x13F, off)
 }
 
 fn word_known(off: u32) -> bool
     requires { in_table off ≡ false }
     ensures { (v : ℕ) → result ≡ not (is_none (dma_write off 4 v)) }
 {
-    match off {
-        0x00 => true,
-        0x08 => true,
-        0x0C => true,
-        0x10 => true,
-        0x14 => true,
-        0x18 => true,
-        0x1C => true,
-        0x20 => true,
-        0x24 => true,
-        0x28 => true,
-        0x2C => true,
-        _ => false,
-    }
+    matches!(
+        off,
+        0x00 | 0x08 | 0x0C | 0x10 | 0x14 | 0x18 | 0x1C | 0x20 | 0x24 | 0x28 | 0x2C
+    )
 }
 
 // "No such register at that offset and size": of the arms of `edma_write`, and of the table.
@@ -68,11 +55,8 @@ fn starts(table: &[u8; 2048], off: usize, size: usize) -> bool
     ensures { (result ≡ starts_in table.now off size) × (length table.now ≡ 2048) }
 {
     let last = 32 * (off / 32) + 0x1F;
-    let b = words::get1(table, last) as u64;
-    if off + size <= last {
-        return false;
-    }
-    words::has_bit(b, START)
+    let b = u64::from(words::get1(table, last));
+    last < off + size && words::has_bit(b, START)
 }
 
 // "A guest descriptor write is one of its size"; where it starts its channel, it "sets that KICK bit".
@@ -89,7 +73,7 @@ pub fn tcd_write(
 {
     let place = off as usize;
     let width = size as usize;
-    let stored = journal::store_table(s, table, place, width, v as u64, journal);
+    let stored = journal::store_table(s, table, place, width, u64::from(v), journal);
     let on = starts(table, place, width);
     dma_commands::with_kick(stored, on, 1u64 << (place / 32))
 }
@@ -100,25 +84,25 @@ pub fn tcd_write(
 fn flags_written(n: Scalars, off: u32, v: u32) -> Scalars
     ensures { (p : List ℕ) → OnNumbers (or_nothing (pick off 4 (drop 7 (dma_arms v)))) p n result }
 {
-    let mut e = n;
-    let high = (v as u64) * 0x100000000;
+    let low = u64::from(v);
+    let high = low * 0x100000000;
     match off {
-        0x20 => {
-            e.int = words::without(n.int, high);
-            e
-        }
-        0x24 => {
-            e.int = words::without(n.int, v as u64);
-            e
-        }
-        0x28 => {
-            e.err = words::without(n.err, high);
-            e
-        }
-        0x2C => {
-            e.err = words::without(n.err, v as u64);
-            e
-        }
+        0x20 => Scalars {
+            int: words::without(n.int, high),
+            ..n
+        },
+        0x24 => Scalars {
+            int: words::without(n.int, low),
+            ..n
+        },
+        0x28 => Scalars {
+            err: words::without(n.err, high),
+            ..n
+        },
+        0x2C => Scalars {
+            err: words::without(n.err, low),
+            ..n
+        },
         _ => n,
     }
 }
@@ -128,28 +112,24 @@ fn masks_written(n: Scalars, off: u32, v: u32) -> Scalars
     requires { (off ≡ 0x18 → ⊥) × (off ≡ 0x1C → ⊥) }
     ensures { (p : List ℕ) → OnNumbers (or_nothing (pick off 4 (dma_arms v))) p n result }
 {
-    let mut e = n;
     match off {
-        0x00 => {
-            e.cr = v;
-            e
-        }
-        0x08 => {
-            e.erq = masks::with_bytes_in(0, 4, v, n.erq);
-            e
-        }
-        0x0C => {
-            e.erq = masks::with_bytes_in(4, 4, v, n.erq);
-            e
-        }
-        0x10 => {
-            e.eei = masks::with_bytes_in(0, 4, v, n.eei);
-            e
-        }
-        0x14 => {
-            e.eei = masks::with_bytes_in(4, 4, v, n.eei);
-            e
-        }
+        0x00 => Scalars { cr: v, ..n },
+        0x08 => Scalars {
+            erq: masks::with_bytes_in(0, 4, v, n.erq),
+            ..n
+        },
+        0x0C => Scalars {
+            erq: masks::with_bytes_in(4, 4, v, n.erq),
+            ..n
+        },
+        0x10 => Scalars {
+            eei: masks::with_bytes_in(0, 4, v, n.eei),
+            ..n
+        },
+        0x14 => Scalars {
+            eei: masks::with_bytes_in(4, 4, v, n.eei),
+            ..n
+        },
         _ => flags_written(n, off, v),
     }
 }
@@ -170,14 +150,9 @@ fn word_written(
         0x18 => dma_commands::commands(s, table, pending, 0, v, journal),
         0x1C => dma_commands::commands(s, table, pending, 4, v, journal),
         _ => {
-            let Step::Going(c) = s else {
-                return s;
-            };
-            let n = c.scalars;
-            let scalars = masks_written(n, off, v);
-            let mut f = c;
-            f.scalars = scalars;
-            Step::Going(f)
+            let mut c = s?;
+            c.scalars = masks_written(c.scalars, off, v);
+            Ok(c)
         }
     }
 }

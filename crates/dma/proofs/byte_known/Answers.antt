@@ -6,7 +6,7 @@ use Rattle.dma.proofs.byte_known.Goals as goal
 
 pub returns-then-within : goal.returns-then-within
 unfolding is_none
-returns-then-within c v = rw (write-command _ v c.requires (sym c.within.ensures ∙ c.if-within.true))
+returns-then-within c v = rw (write-command _ v c.requires (sym c.within.ensures ∙ c.if-within.true)) c.if-within.true
 
-pub returns : goal.returns
-returns c v = c.within-2.ensures ∙ byte-there _ v c.requires (sym c.within.ensures ∙ c.if-within.false)
+pub returns-else-within : goal.returns-else-within
+returns-else-within c v = c.within-else-within.ensures ∙ byte-there _ v c.requires (sym c.within.ensures ∙ c.if-within.false)

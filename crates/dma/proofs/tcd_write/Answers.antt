@@ -21,4 +21,4 @@ returns c base lent d w m =
     let h = small _ c.requires.0 in
     table-written base lent d w a.off a.size a.v c.store_table-stored.result _ _ m (came_to a.s d w a.journal.now a.table.now m)
     (omega (arith, c.starts-on.ensures.1, h)) c.starts-on.ensures.0 (one_shl 64 _ (omega (arith, h)))
-    (c.with_kick.ensures base lent d w _ _ m) (c.store_table-stored.ensures base lent d w m)
+    (c.with_kick.ensures base lent d w _ _ m) (rw c.from.ensures at c.store_table-stored.ensures base lent d w m)
