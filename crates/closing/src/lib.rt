@@ -326,12 +326,12 @@ fn note_level(
     note_all(s, &before.levels, &after.levels, first, journal)
 }
 
-// Those of all three. (Three calls, as in `note_core`.)
+// Those of all three. (Three calls, as in `note_core`; of copies, since with references they take 25 instructions more.)
 fn note_levels(s: Noted, before: Core, after: Core, journal: &mut [u8]) -> Noted
     ensures { Part 192 256 (levels_in before) (levels_in after) s result ⇒ journal }
 {
-    let b = &before.controllers;
-    let a = &after.controllers;
+    let b = before.controllers;
+    let a = after.controllers;
     let first = note_level(s, 256, b[0], a[0], journal);
     let second = note_level(first, 320, b[1], a[1], journal);
     note_level(second, 384, b[2], a[2], journal)
