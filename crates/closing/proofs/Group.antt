@@ -18,8 +18,7 @@ use Rattle.rules.specs.State.{Device}
 use Rattle.rules.proofs.Back.{length_rec, length_lines, length_end}
 use Rattle.rules.proofs.BytesLaws.{length_splice, splice_comm, splice_append}
 use Rattle.rules.proofs.Cut.{splice_cut}
-use Rattle.closing.specs.Closes.{Noting, noting, add, add_all, add_end, closed, Closes}
-use Rattle.closing.specs.Closes.{Noted}
+use Rattle.closing.specs.Closes.{Noted, Noting, noting, add, add_all, add_end, closed, Closes}
 use Rattle.closing.proofs.Laws.{all_full, add-no, add_yes}
 
 -- ---- all of them fit

@@ -8,7 +8,7 @@ use Prim.Native.Nat.{ℕ, zero, suc, ◌+◌, ◌-◌, ◌/◌, ◌≤◌, ◌<�
 use native.Mathlib.Nat.{add-suc, add-zero, suc-add, suc_inj, not-suc-le-zero, le_of_suc-le-suc, le_of_eq}
 use native.Mathlib.Numerals.{add-one}
 use native.Mathlib.Omega.{arith}
-use borrow.Author.Tests.{le-leb, lt-leb, eq-eqb, eqb-true, ne_eqb}
+use borrow.Author.Tests.{le-leb, lt-leb, eq-eqb, ne_eqb}
 use lib.Bits.{bit_or, bit_xor, or_add_and, xor_add_and, and_le_l, and_le_r}
 use lib.Dec.{eqb}
 use lib.ListN.{length, get_or, set, take, drop, length-take, length-drop, take-append-drop, drop_of_length-le}
@@ -16,8 +16,7 @@ use lib.Seq.{take_all, drop-cons, drop-drop}
 use Rattle.std.proofs.lemmas.List.{length-map, map-append}
 use Rattle.rules.specs.Bytes.{splice}
 use Rattle.rules.specs.Carry.{Rec, stood_in, line, line_of, end_line, changed}
-use Rattle.closing.specs.Closes.{Noting, noting, add, add_all, add_end}
-use Rattle.closing.specs.Closes.{Noted}
+use Rattle.closing.specs.Closes.{Noted, Noting, noting, add, add_all, add_end}
 
 -- ---- one record, by cases
 

@@ -13,8 +13,7 @@ use Rattle.rules.proofs.FieldLaws.{sized, levels_long}
 use Rattle.rules.proofs.ViewLaws.{controller_viewed}
 use Rattle.act.specs.Parts.{Arrays, whole, held_at, SameLevels}
 use Rattle.act.specs.declared.Core.{Core}
-use Rattle.closing.specs.Closes.{Noting, noting, add_all, Notes, Part, core_in, levels_in, order_in}
-use Rattle.closing.specs.Closes.{Noted}
+use Rattle.closing.specs.Closes.{Noted, Noting, noting, add_all, Notes, Part, core_in, levels_in, order_in}
 use Rattle.closing.proofs.Laws.{part-on, same-on, none_changed, plain}
 
 -- a part whose elements are themselves the numbers

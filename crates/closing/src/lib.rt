@@ -45,7 +45,7 @@ fn note_one(at: usize, n: u32, before: u64, after: u64, journal: &mut [u8]) -> N
     note(at, 2, 8, n, before, journal)
 }
 
-// The same after other records. (The place is taken out and put in again: handing on the enum whole copies its padding too, which is slow.)
+// The same after other records. (The place is taken out and put in again: handing on `s` whole copies its padding too, which is slow.)
 fn note_field(s: Noted, n: u32, before: u64, after: u64, journal: &mut [u8]) -> Noted
     ensures { Notes n (before ∷ []) (after ∷ []) s result ⇒ journal }
 {
@@ -126,13 +126,25 @@ impl Element for u8 {
 // How many elements a block has.
 const BLOCK: usize = 16;
 
-fn note_each<T: Element>(at: usize, before: &[T], after: &[T], first: u32, journal: &mut [u8]) -> Noted
+fn note_each<T: Element>(
+    at: usize,
+    before: &[T],
+    after: &[T],
+    first: u32,
+    journal: &mut [u8],
+) -> Noted
     requires { Noteworthy first (map T.number before.now) (map T.number after.now) }
     ensures { Notes first (map T.number before.now) (map T.number after.now) (Some at) result ⇒ journal }
 {
     let mut end = at;
     for i in 0..before.len() {
-        end = note_one(end, first + i as u32, before[i].into(), after[i].into(), journal)?;
+        end = note_one(
+            end,
+            first + i as u32,
+            before[i].into(),
+            after[i].into(),
+            journal,
+        )?;
     }
     Some(end)
 }
@@ -166,7 +178,14 @@ fn note_block<T: Element>(
     note_each(at, before, after, first, journal)
 }
 
-fn note_all<T: Element>(s: Noted, before: &[T], after: &[T], first: u32, journal: &mut [u8]) -> Noted
+// (By numbers of blocks and elements: with `chunks_exact` each block takes four instructions more, with `chunks` twice as many in all.)
+fn note_all<T: Element>(
+    s: Noted,
+    before: &[T],
+    after: &[T],
+    first: u32,
+    journal: &mut [u8],
+) -> Noted
     requires { Noteworthy first (map T.number before.now) (map T.number after.now) }
     ensures { Notes first (map T.number before.now) (map T.number after.now) s result ⇒ journal }
 {
@@ -214,7 +233,13 @@ pub fn note_count(s: Noted, channel: u32, before: u32, after: u32, journal: &mut
     requires { channel < 64 }
     ensures { NotesOne 64 192 channel before after s result ⇒ journal }
 {
-    note_field(s, 192 + channel, u64::from(before), u64::from(after), journal)
+    note_field(
+        s,
+        192 + channel,
+        u64::from(before),
+        u64::from(after),
+        journal,
+    )
 }
 
 // "Six-bit fields 768 + channel": of an act that can have changed the priority of one channel alone.
@@ -222,7 +247,13 @@ pub fn note_priority(s: Noted, channel: u32, before: u8, after: u8, journal: &mu
     requires { channel < 64 }
     ensures { NotesOne 64 768 channel before after s result ⇒ journal }
 {
-    note_field(s, 768 + channel, u64::from(before), u64::from(after), journal)
+    note_field(
+        s,
+        768 + channel,
+        u64::from(before),
+        u64::from(after),
+        journal,
+    )
 }
 
 // "512+v taken (v 64..255)".
@@ -267,34 +298,16 @@ fn note_own(
     )
 }
 
-// Fields 0 to 63: between these there are none.
+// Fields 0 to 63: between these there are none. (Three calls stay: a loop is no plainer, for each has numbers of its own, and `core_in` names all three.)
 pub fn note_core(s: Noted, before: Core, after: Core, journal: &mut [u8]) -> Noted
     ensures { Notes 0 (core_in before) (core_in after) s result ⇒ journal }
 {
-    let numbers = before.scalars;
-    let numbers_after = after.scalars;
-    let scalars = note_scalars(s, numbers, numbers_after, journal);
-    let first = note_own(
-        scalars,
-        16,
-        before.controllers[0],
-        after.controllers[0],
-        journal,
-    );
-    let second = note_own(
-        first,
-        20,
-        before.controllers[1],
-        after.controllers[1],
-        journal,
-    );
-    note_own(
-        second,
-        24,
-        before.controllers[2],
-        after.controllers[2],
-        journal,
-    )
+    let b = &before.controllers;
+    let a = &after.controllers;
+    let scalars = note_scalars(s, before.scalars, after.scalars, journal);
+    let first = note_own(scalars, 16, b[0], a[0], journal);
+    let second = note_own(first, 20, b[1], a[1], journal);
+    note_own(second, 24, b[2], a[2], journal)
 }
 
 // ---- level bytes
@@ -313,15 +326,15 @@ fn note_level(
     note_all(s, &before.levels, &after.levels, first, journal)
 }
 
-// Those of all three.
+// Those of all three. (Three calls, as in `note_core`; of copies, since with references they take 25 instructions more.)
 fn note_levels(s: Noted, before: Core, after: Core, journal: &mut [u8]) -> Noted
     ensures { Part 192 256 (levels_in before) (levels_in after) s result ⇒ journal }
 {
-    let controllers = before.controllers;
-    let controllers_after = after.controllers;
-    let first = note_level(s, 256, controllers[0], controllers_after[0], journal);
-    let second = note_level(first, 320, controllers[1], controllers_after[1], journal);
-    note_level(second, 384, controllers[2], controllers_after[2], journal)
+    let b = before.controllers;
+    let a = after.controllers;
+    let first = note_level(s, 256, b[0], a[0], journal);
+    let second = note_level(first, 320, b[1], a[1], journal);
+    note_level(second, 384, b[2], a[2], journal)
 }
 
 // The same where the act could have changed them (`touched`): else they are not looked at.

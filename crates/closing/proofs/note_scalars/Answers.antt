@@ -1,7 +1,4 @@
 -- `closing::note_scalars` meets its contract: the numbers as a list, before and after. Assumes nothing.
-use mathlib.Core.Path.{sym, ap, ◌∙◌}
-use native.Mathlib.Omega.{arith}
-use lib.ListN.{length}
 use Rattle.closing.proofs.Laws.{stays_full, told_at, plain}
 use Rattle.closing.proofs.note_scalars.Goals as goal
 

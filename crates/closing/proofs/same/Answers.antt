@@ -10,9 +10,10 @@ use Rattle.closing.proofs.same.Goals as goal
 pub loop-b-preserved : goal.loop-b-preserved
 loop-b-preserved g c =
     let s = c.in-Some.ensures.steps in
-    let laws = g.met.T.Element in
-    (omega (arith, ap length s.0, ap length s.1, c.loop-b.invariant.0),
-        same_more g.T.Element.number s.0 s.1 (laws.xored _ _ _ c.bitxor.ensures) (laws.ored _ _ _ c.bitor-other.ensures) c.loop-b.invariant.1)
+    let laws = g.met.T.Element in (
+      omega (arith, ap length s.0, ap length s.1, c.loop-b.invariant.0),
+      same_more g.T.Element.number s.0 s.1 (laws.xored _ _ _ c.bitxor.ensures) (laws.ored _ _ _ c.bitor-other.ensures) c.loop-b.invariant.1,
+    )
 
 pub returns : goal.returns
 returns g c e =
