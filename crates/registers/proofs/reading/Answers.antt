@@ -1,11 +1,15 @@
 -- `registers::reading` meets its contract. Assumes nothing.
-use Rattle.rules.specs.Calls.{check, is_none, or_zero, read_unless}
+use Rattle.std.proofs.Common.{◌≡◌, ℕ, Option, Some, None, refl, ap, ◌∙◌}
+use Rattle.std.specs.Option.{ok_or}
+use Rattle.rules.specs.Calls.{check, is_none, or_zero, read_unless, told_reading}
+use Rattle.rules.specs.declared.Refusal.TheVariants as Refusal
+use Rattle.intc.specs.Cells.{reads}
 use Rattle.registers.proofs.reading.Goals as goal
 
-pub returns-in-Value : goal.returns-in-Value
+told : (cell : Option ℕ) → told_reading (ok_or cell Refusal.Register) ≡ read_unless (check (is_none (reads cell)) 3 0) (reads cell)
 unfolding read_unless check is_none or_zero
-returns-in-Value c = rw c.in-Value.is
+told (Some v) = refl
+told None = refl
 
-pub returns-in-Nothing : goal.returns-in-Nothing
-unfolding read_unless check is_none or_zero
-returns-in-Nothing c = rw c.in-Nothing.is
+pub returns : goal.returns
+returns c = ap told_reading c.ok_or.ensures.value ∙ told c.args.cell
