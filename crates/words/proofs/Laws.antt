@@ -1,6 +1,8 @@
 -- The laws that the proofs of this crate cite, over plain numbers: sizes, signed numbers, sums with a modulo. Assumes nothing.
-use Rattle.std.proofs.Common.{◌≡◌, ℕ, zero, suc, ◌+◌, ◌-◌, ◌*◌, ◌/◌, ◌%◌, ◌^◌, ◌<◌, ◌≤◌, List, [], ◌∷◌, get_or, refl, ap, ◌∙◌, inl, inr, div-mul-le_self, arith, pow_mono, le-ltb, lt-ltb, eq-eqb, ne_eqb}
+use Rattle.std.proofs.Common.{◌≡◌, ℕ, zero, suc, ◌+◌, ◌-◌, ◌*◌, ◌/◌, ◌%◌, ◌^◌, ◌<◌, ◌≤◌, Bool, true, false, cond, pos, negsuc, nat_lt, w16, w32, List, [], ◌∷◌, get_or, refl, ap, ◌∙◌, inl, inr, div-mul-le_self, arith, pow_mono, le-ltb, lt-ltb, eq-eqb, ne_eqb}
+use Rattle.std.specs.Int.{cast_unsigned, cast_signed}
 use lib.Bits.{bit_and, bit_or}
+use mir.Val.{sel}
 use Rattle.rules.specs.Words.{wholes, wrap32, signed, modulo_add}
 use Rattle.rules.proofs.Powers.{one_shl, low-low, low-replaced}
 use Rattle.words.specs.Sizes.{a_size, Sized}
@@ -45,6 +47,26 @@ module _ (w n : ℕ) where
   unfolding signed
   signed_high k h = rw (le-ltb n (2 ^ (w - 1)) h) (omega (arith, pow_mono k))
 
+-- a number of 16 bits that is read as signed, and written with 32
+abbrev pub wide : ℕ → ℕ
+wide n = cast_unsigned w32 (cast_signed w16 n)
+
+module _ (n : ℕ) (h : n < 2 ^ 16) where
+  pub signed_wide : wide n ≡ signed 16 n
+  unfolding signed
+  signed_wide = either (nat_lt n (2 ^ 15))
+    where
+      either : (b : Bool) → cast_unsigned w32 (sel b (pos n) (negsuc (2 ^ 16 - suc n))) ≡ cond b n (n + 2 ^ 32 - 2 ^ 16)
+      either true = refl
+      either false = omega arith
+
+  pub wide_fits : wide n < 2 ^ 32
+  wide_fits = either (nat_lt n (2 ^ 15))
+    where
+      either : (b : Bool) → cast_unsigned w32 (sel b (pos n) (negsuc (2 ^ 16 - suc n))) < 2 ^ 32
+      either true = omega arith
+      either false = omega arith
+
 -- ---- sums with a modulo
 
 module _ (a d m : ℕ) where
@@ -53,9 +75,9 @@ module _ (a d m : ℕ) where
   modulo_none e = rw (eq-eqb m 0 e)
 
   -- (a & !mask) | (sum & mask), as the code makes the mask
-  pub modulo_some : {sum : ℕ} → m < 32 → (m ≡ 0 → ⊥) → a < 2 ^ 32 → sum ≡ (a + d) % 2 ^ 32
-      → bit_or (bit_and a ((2 ^ 32 - 1) - ((1 * 2 ^ m) % 2 ^ 32 - 1))) (bit_and sum ((1 * 2 ^ m) % 2 ^ 32 - 1)) ≡ modulo_add a d m
+  pub modulo_some : m < 32 → (m ≡ 0 → ⊥) → a < 2 ^ 32
+      → bit_or (bit_and a ((2 ^ 32 - 1) - ((1 * 2 ^ m) % 2 ^ 32 - 1))) (bit_and ((a + d) % 2 ^ 32) ((1 * 2 ^ m) % 2 ^ 32 - 1)) ≡ modulo_add a d m
   unfolding modulo_add
-  modulo_some {sum} h n g e =
+  modulo_some h n g =
       rw (one_shl 32 m h, ne_eqb m 0 n)
-      (low-replaced 32 m a sum (omega arith) g ∙ ap (λ (x : ℕ). a / 2 ^ m * 2 ^ m + x) (ap (λ (x : ℕ). x % 2 ^ m) e ∙ low-low 32 m (a + d) (omega arith)))
+      (low-replaced 32 m a _ (omega arith) g ∙ ap (λ (x : ℕ). a / 2 ^ m * 2 ^ m + x) (low-low 32 m (a + d) (omega arith)))
