@@ -175,64 +175,6 @@ pub fn put<W: Word>(s: &mut [u8], at: usize, v: W)
     v.write(s, at);
 }
 
-// ---- the same at one width
-
-pub fn get1(s: &[u8], at: usize) -> u8
-    requires { at + 1 ≤ length s.now }
-    ensures { result ≡ number (part s.now at 1) }
-{
-    get(s, at)
-}
-
-pub fn get2(s: &[u8], at: usize) -> u16
-    requires { at + 2 ≤ length s.now }
-    ensures { result ≡ number (part s.now at 2) }
-{
-    get(s, at)
-}
-
-pub fn get4(s: &[u8], at: usize) -> u32
-    requires { at + 4 ≤ length s.now }
-    ensures { result ≡ number (part s.now at 4) }
-{
-    get(s, at)
-}
-
-pub fn get8(s: &[u8], at: usize) -> u64
-    requires { at + 8 ≤ length s.now }
-    ensures { result ≡ number (part s.now at 8) }
-{
-    get(s, at)
-}
-
-pub fn put1(s: &mut [u8], at: usize, v: u8)
-    requires { at + 1 ≤ length s.old }
-    ensures { s.new ≡ splice s.old at (bytes 1 v) }
-{
-    put(s, at, v);
-}
-
-pub fn put2(s: &mut [u8], at: usize, v: u16)
-    requires { at + 2 ≤ length s.old }
-    ensures { s.new ≡ splice s.old at (bytes 2 v) }
-{
-    put(s, at, v);
-}
-
-pub fn put4(s: &mut [u8], at: usize, v: u32)
-    requires { at + 4 ≤ length s.old }
-    ensures { s.new ≡ splice s.old at (bytes 4 v) }
-{
-    put(s, at, v);
-}
-
-pub fn put8(s: &mut [u8], at: usize, v: u64)
-    requires { at + 8 ≤ length s.old }
-    ensures { s.new ≡ splice s.old at (bytes 8 v) }
-{
-    put(s, at, v);
-}
-
 // ---- counts. "If bit 15 of a count is set, the count is its low 9 bits and bits 14..9 the link; else it is the low 15 bits with no link."
 
 pub fn is_linked(raw: u16) -> bool
@@ -323,10 +265,10 @@ pub fn get_width(s: &[u8], at: usize, width: usize) -> u64
     ensures { result ≡ number (part s.now at width) }
 {
     match width {
-        1 => get1(s, at) as u64,
-        2 => get2(s, at) as u64,
-        4 => get4(s, at) as u64,
-        _ => get8(s, at),
+        1 => get::<u8>(s, at) as u64,
+        2 => get::<u16>(s, at) as u64,
+        4 => get::<u32>(s, at) as u64,
+        _ => get(s, at),
     }
 }
 
@@ -335,10 +277,10 @@ pub fn put_width(s: &mut [u8], at: usize, width: usize, value: u64)
     ensures { s.new ≡ splice s.old at (bytes width value) }
 {
     match width {
-        1 => put1(s, at, (value % 0x100) as u8),
-        2 => put2(s, at, (value % 0x10000) as u16),
-        4 => put4(s, at, (value % 0x100000000) as u32),
-        _ => put8(s, at, value),
+        1 => put(s, at, (value % 0x100) as u8),
+        2 => put(s, at, (value % 0x10000) as u16),
+        4 => put(s, at, (value % 0x100000000) as u32),
+        _ => put(s, at, value),
     }
 }
 
