@@ -1,7 +1,10 @@
 -- The laws that the proofs of this crate cite, over plain numbers: sizes, signed numbers, sums with a modulo. Assumes nothing.
-use Rattle.std.proofs.Common.{◌≡◌, ℕ, zero, suc, ◌+◌, ◌-◌, ◌*◌, ◌/◌, ◌%◌, ◌^◌, ◌<◌, ◌≤◌, Bool, true, false, cond, pos, negsuc, nat_lt, w16, w32, List, [], ◌∷◌, get_or, refl, ap, ◌∙◌, inl, inr, div-mul-le_self, arith, pow_mono, le-ltb, lt-ltb, eq-eqb, ne_eqb}
+use Rattle.std.proofs.Common.{◌≡◌, ℕ, zero, suc, ◌+◌, ◌-◌, ◌*◌, ◌/◌, ◌%◌, ◌^◌, ◌<◌, ◌≤◌, Bool, true, false, cond, pos, negsuc, nat_lt, w16, w32, List, [], ◌∷◌, get_or, min, refl, sym, ap, ◌∙◌, inl, inr, div-mul-le_self, arith, pow_mono, le-ltb, lt-ltb, eq-eqb, ne_eqb}
 use Rattle.std.specs.Int.{cast_unsigned, cast_signed}
+use Rattle.std.proofs.lemmas.Grind.{div_ceil_times}
 use lib.Bits.{bit_and, bit_or}
+use native.Mathlib.Nat.{suc-mul, div-eq_of_lt-le}
+use Rattle.std.proofs.Math.Numerals.{suc-eq-add-one}
 use mir.Val.{sel}
 use Rattle.rules.specs.Words.{wholes, wrap32, signed, modulo_add}
 use Rattle.rules.proofs.Powers.{one_shl, low-low, low-replaced}
@@ -31,7 +34,16 @@ size_entry (suc (suc (suc (suc (suc (suc zero)))))) h = (refl, sized _ (inl refl
 size_entry (suc (suc (suc (suc (suc (suc (suc zero))))))) h = (refl, sized _ (inl refl))
 size_entry (suc (suc (suc (suc (suc (suc (suc (suc k)))))))) h = absurd (omega arith)
 
--- what n bytes round up to still fits into 32 bits
+-- what n bytes round up to, as a quotient and one more for a rest
+pub wholes_up : (n size : ℕ) → 0 < size → n / size + min 1 (n % size) ≡ wholes n size
+unfolding wholes
+wholes_up n size h =
+    let q : ℕ = n / size + min 1 (n % size) in
+    let times = div_ceil_times n size h in
+    let next : (q + 1) * size ≡ q * size + size = ap (λ (x : ℕ). x * size) (sym (suc-eq-add-one q)) ∙ suc-mul q size in
+    sym (div-eq_of_lt-le {k = q} size (omega (arith, times.1)) (omega (arith, next, times.0)))
+
+-- it still fits into 32 bits
 pub wholes_fit : (n size : ℕ) → n ≤ 2 ^ 22 → size ≤ 32 → wholes n size * size < 2 ^ 32
 unfolding wholes
 wholes_fit n size h k = omega (arith, div-mul-le_self (n + size - 1) size)

@@ -24,7 +24,7 @@ pub fn whole_sizes(n: u32, size: u32) -> u32
     requires { (n ≤ 2 ^ 22) × (0 < size) × (size ≤ 32) }
     ensures { (result ≡ wholes n size) × (result * size < 2 ^ 32) }
 {
-    (n + size - 1) / size
+    n.div_ceil(size)
 }
 
 // "Every address sum wraps at 2^32; with modulo m above 0 only the low m bits move." A descriptor's modulo has 5 bits.
@@ -47,7 +47,7 @@ pub fn signed16(n: u16) -> u32
     (n.cast_signed() as i32).cast_unsigned()
 }
 
-// "The offset is the signed 20 bits 29..10": what is added for it in a sum that wraps at 2^32.
+// "The offset is the signed 20 bits 29..10": what is added for it in a sum that wraps at 2^32. It stays worked out by hand: no type has 20 bits.
 pub fn signed20(n: u32) -> u32
     requires { n < 2 ^ 20 }
     ensures { result ≡ signed 20 n }
@@ -94,6 +94,8 @@ pub trait Word: Copy {
     // a value is told by its number
     ghost told_by_number: { (v w : Self) → stands_for v ≡ stands_for w → v ≡ w };
 }
+
+// An impl stands for each type: no macro of this repository may write one.
 
 impl Word for u8 {
     ghost width = { 1 };
@@ -212,7 +214,8 @@ pub fn recounted(raw: u16, n: u16) -> u16
     }
 }
 
-// ---- masks of 64 bits: bit `i` asked, gained, lost
+// ---- masks of 64 bits: bit `i` asked, gained, lost. The place stays a number: nearly all callers give a literal or a channel, and a type with the bound
+// would be one more word at each call.
 
 pub fn has_bit(x: u64, i: usize) -> bool
     requires { i < 64 }
@@ -286,14 +289,14 @@ pub fn put_width(s: &mut [u8], at: usize, width: usize, value: u64)
 
 // ---- the lower of two numbers, and zeros
 
-// A function of its own, so that its caller has no branch.
+// `min` of std, under the name that docs/DECISIONS.md has for it.
 pub fn least(a: usize, b: usize) -> usize
     ensures { result ≡ min a b }
 {
     a.min(b)
 }
 
-// Zeros from `from` up to `to`; the rest stays.
+// Zeros from `from` up to `to`; the rest stays. It stays a loop: `fill` stores the last byte apart, in 26 instructions where this takes 10.
 pub fn clear(s: &mut [u8], from: usize, to: usize)
     requires { (from ≤ to) × (to ≤ length s.old) }
     ensures { s.new ≡ take from s.old ++ replicate (to - from) 0 ++ drop to s.old }
