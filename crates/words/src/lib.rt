@@ -95,7 +95,7 @@ pub trait Word: Copy {
     ghost told_by_number: { (v w : Self) → stands_for v ≡ stands_for w → v ≡ w };
 }
 
-// An impl stands for each type: no macro of this repository may write one.
+// ---- its types, each with an impl of its own: no macro of this repository may write one
 
 impl Word for u8 {
     ghost width = { 1 };
@@ -160,6 +160,8 @@ impl Word for u64 {
         lay(s, at, &self.to_be_bytes());
     }
 }
+
+// ---- a word of any type, read and stored
 
 // The word at `at`.
 pub fn get<W: Word>(s: &[u8], at: usize) -> W
