@@ -49,7 +49,7 @@ pub fn with_bytes_in(i: usize, size: usize, v: u32, register: u64) -> u64
 pub fn within(lo: u32, hi: u32, off: u32) -> bool
     ensures { result ≡ within lo hi off }
 {
-    lo <= off && off <= hi
+    (lo..=hi).contains(&off)
 }
 
 // The channels, or sources, that a command byte names: bit 6, all; else bits 5..0.
@@ -57,7 +57,8 @@ pub fn named(v: u32) -> u64
     ensures { result ≡ named v }
 {
     if words::has_bit(v as u64, 6) {
-        return 0xFFFFFFFFFFFFFFFF;
+        u64::MAX
+    } else {
+        words::gain_bit(0, (v % 64) as usize)
     }
-    words::gain_bit(0, (v % 64) as usize)
 }

@@ -1,5 +1,5 @@
 -- A descriptor read field by field; byte counts and minor offsets, by cases. Assumes nothing.
-use Rattle.std.proofs.Common.{◌≡◌, ℕ, ◌+◌, ◌%◌, ◌^◌, ◌≤◌, Bool, true, false, List, ap, add-zero, lit≤, eq-eqb, ne_eqb}
+use Rattle.std.proofs.Common.{◌≡◌, ℕ, ◌+◌, ◌%◌, ◌^◌, ◌≤◌, Bool, true, false, ◌||◌, List, ap, add-zero, lit≤, eq-eqb, ne_eqb}
 use Rattle.rules.specs.Bytes.{number, part}
 use Rattle.rules.specs.Minor.{tcd_of, source_offset, dest_offset, capped, minor_bytes, minor_offset, offset}
 use Rattle.rules.specs.Words.{wrap32, count_of}
@@ -50,17 +50,13 @@ module _ (l : List ℕ) (o : ℕ) where
 -- ---- byte counts and minor offsets
 
 module _ (cr : ℕ) (t : Tcd) {n : ℕ} where
-  pub bytes_source : source_offset cr t ≡ true → n ≡ capped (t.nbytes % 2 ^ 10) → n ≡ minor_bytes cr t
+  pub bytes_offset : source_offset cr t || dest_offset cr t ≡ true → n ≡ capped (t.nbytes % 2 ^ 10) → n ≡ minor_bytes cr t
   unfolding minor_bytes
-  bytes_source e d = rw e d
+  bytes_offset e d = rw e d
 
-  pub bytes_dest : source_offset cr t ≡ false → dest_offset cr t ≡ true → n ≡ capped (t.nbytes % 2 ^ 10) → n ≡ minor_bytes cr t
+  pub bytes_plain : source_offset cr t || dest_offset cr t ≡ false → n ≡ capped (t.nbytes % 2 ^ 30) → n ≡ minor_bytes cr t
   unfolding minor_bytes
-  bytes_dest e g d = rw (e, g) d
-
-  pub bytes_plain : source_offset cr t ≡ false → dest_offset cr t ≡ false → n ≡ capped (t.nbytes % 2 ^ 30) → n ≡ minor_bytes cr t
-  unfolding minor_bytes
-  bytes_plain e g d = rw (e, g) d
+  bytes_plain e d = rw e d
 
 module _ (t : Tcd) (a : ℕ) {on : Bool} where
   pub offset_none : on ≡ false → a ≡ offset on t a
@@ -72,6 +68,6 @@ module _ (t : Tcd) (a : ℕ) {on : Bool} where
     unfolding offset
     offset_last e = rw (takes, ← counted, eq-eqb n 1 e)
 
-    pub offset_added : (n ≡ 1 → ⊥) → {by r : ℕ} → by ≡ minor_offset t → r ≡ (a + by) % 2 ^ 32 → r ≡ offset on t a
+    pub offset_added : (n ≡ 1 → ⊥) → {by : ℕ} → by ≡ minor_offset t → (a + by) % 2 ^ 32 ≡ offset on t a
     unfolding offset wrap32
-    offset_added e b d = rw (takes, ← counted, ne_eqb n 1 e, ← b) d
+    offset_added e b = rw (takes, ← counted, ne_eqb n 1 e, ← b)

@@ -2,7 +2,7 @@
 // Each contract is an equation with a definition of crate `rules` (specs/Minor.antt). Quoted words are document 01's.
 #![tactic(auto)]
 
-ghost use Rattle.std.specs.Prelude.{◌≡◌, ◌+◌, ◌^◌, ◌<◌, ◌≤◌, ◌&&◌, length};
+ghost use Rattle.std.specs.Prelude.{◌≡◌, ◌+◌, ◌^◌, ◌<◌, ◌≤◌, ◌&&◌, ◌||◌, length};
 ghost use Rattle.rules.specs.Bytes.{part};
 ghost use Rattle.rules.specs.Minor.{tcd_of, source_offset, dest_offset, capped, minor_bytes, offset};
 ghost use Rattle.rules.specs.Words.{has};
@@ -15,17 +15,17 @@ pub fn tcd_at(s: &[u8], at: usize) -> Tcd
     ensures { result ≡ tcd_of (part s.now at 32) }
 {
     Tcd {
-        saddr: words::get4(s, at),
-        attr: words::get2(s, at + 0x04),
-        soff: words::get2(s, at + 0x06),
-        nbytes: words::get4(s, at + 0x08),
-        slast: words::get4(s, at + 0x0C),
-        daddr: words::get4(s, at + 0x10),
-        citer: words::get2(s, at + 0x14),
-        doff: words::get2(s, at + 0x16),
-        dlast: words::get4(s, at + 0x18),
-        biter: words::get2(s, at + 0x1C),
-        csr: words::get2(s, at + 0x1E),
+        saddr: words::get(s, at),
+        attr: words::get(s, at + 0x04),
+        soff: words::get(s, at + 0x06),
+        nbytes: words::get(s, at + 0x08),
+        slast: words::get(s, at + 0x0C),
+        daddr: words::get(s, at + 0x10),
+        citer: words::get(s, at + 0x14),
+        doff: words::get(s, at + 0x16),
+        dlast: words::get(s, at + 0x18),
+        biter: words::get(s, at + 0x1C),
+        csr: words::get(s, at + 0x1E),
     }
 }
 
@@ -34,10 +34,7 @@ fn maps(cr: u32, nbytes: u32, bit: usize) -> bool
     requires { bit < 32 }
     ensures { result ≡ has cr 7 && has nbytes bit }
 {
-    if !words::has_bit(cr as u64, 7) {
-        return false;
-    }
-    words::has_bit(nbytes as u64, bit)
+    words::has_bit(cr as u64, 7) && words::has_bit(nbytes as u64, bit)
 }
 
 // Whether the source takes it: "bit 31 (source)".
@@ -54,38 +51,38 @@ pub fn dests(cr: u32, t: Tcd) -> bool
     maps(cr, t.nbytes, 30)
 }
 
+// Whether either takes it.
+fn either(cr: u32, t: Tcd) -> bool
+    ensures { result ≡ source_offset cr t || dest_offset cr t }
+{
+    sources(cr, t) || dests(cr, t)
+}
+
 // "Zero becomes 2^30; all is capped at 2^22."
 fn cap(n: u32) -> u32
     ensures { (result ≡ capped n) × (0 < result) × (result ≤ 2 ^ 22) }
 {
-    if n == 0 {
-        return 0x400000;
-    }
-    if n < 0x400000 { n } else { 0x400000 }
+    if n == 0 { 0x400000 } else { n.min(0x400000) }
 }
 
 // "Then bit 31 (source) or 30 (destination) of `nbytes` makes the byte count its low 10 bits; otherwise low 30."
 pub fn minor_bytes(cr: u32, t: Tcd) -> u32
     ensures { (result ≡ minor_bytes cr t) × (0 < result) × (result ≤ 2 ^ 22) }
 {
-    if sources(cr, t) {
-        return cap(t.nbytes % 0x400);
+    if either(cr, t) {
+        cap(t.nbytes % 0x400)
+    } else {
+        cap(t.nbytes % 0x40000000)
     }
-    if dests(cr, t) {
-        return cap(t.nbytes % 0x400);
-    }
-    cap(t.nbytes % 0x40000000)
 }
 
 // The minor offset, on an address that takes one: "the signed 20 bits 29..10, added plainly without modulo, and not on the last minor loop".
 pub fn moved_on(on: bool, t: Tcd, a: u32) -> u32
     ensures { result ≡ offset on t a }
 {
-    if !on {
-        return a;
+    if on && words::count_of(t.citer) != 1 {
+        a.wrapping_add(words::signed20(t.nbytes / 0x400 % 0x100000))
+    } else {
+        a
     }
-    if words::count_of(t.citer) == 1 {
-        return a;
-    }
-    std::num::wrapping_add_u32(a, words::signed20(t.nbytes / 0x400 % 0x100000))
 }

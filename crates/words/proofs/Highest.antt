@@ -1,7 +1,7 @@
 -- The highest set bit of a mask: it is set, and none above it is. Assumes nothing.
-use Rattle.std.proofs.Common.{◌≡◌, ℕ, suc, ◌+◌, ◌-◌, ◌%◌, ◌^◌, ◌<◌, ◌≤◌, sym, ap, subst, lt_of_lt_of_le, one-mul, arith, pow_mono}
+use Rattle.std.proofs.Common.{◌≡◌, ℕ, suc, ◌+◌, ◌-◌, ◌*◌, ◌%◌, ◌^◌, ◌<◌, ◌≤◌, sym, ap, subst, lt_of_lt_of_le, one-mul, arith, pow_mono}
 use native.Mathlib.Nat.{pow-succ', div-eq_of_lt, div-eq_of_lt-le}
-use lib.Count.{count_leading_zeros, leading_top}
+use lib.Count.{count_leading_zeros, leading_top, leading_unique}
 use Rattle.rules.proofs.Masks.{bit}
 use Rattle.words.specs.Highest.{highest}
 
@@ -35,3 +35,11 @@ highest_lt m = below (count_leading_zeros 64 m)
   where
     below : (l : ℕ) → 63 - l < 64
     below l = omega arith
+
+-- a mask's highest bit is told by its power and the next
+pub highest_between : (m j : ℕ) → j < 64 → 2 ^ j ≤ m → m < 2 * 2 ^ j → j ≡ highest m
+unfolding highest
+highest_between m j l low high =
+    let e : 2 ^ suc j ≡ 2 * 2 ^ j = pow-succ' 2 j in
+    let zeros : 63 - j ≡ count_leading_zeros 64 m = leading_unique 64 m (63 - j) (suc j) (omega arith) (rw e high) (rw e (omega arith)) in
+    omega (arith, zeros)

@@ -2,7 +2,7 @@
 // Each contract is an equation with a definition of crate `rules` (specs/Words.antt, specs/Bytes.antt). Quoted words are document 01's.
 #![tactic(auto)]
 
-ghost use Rattle.std.specs.Prelude.{◌≡◌, ◌+◌, ◌-◌, ◌*◌, ◌^◌, ◌<◌, ◌≤◌, min, ◌++◌, reverse, length, take, drop, replicate};
+ghost use Rattle.std.specs.Prelude.{◌≡◌, ℕ, ◌+◌, ◌-◌, ◌*◌, ◌^◌, ◌<◌, ◌≤◌, min, ◌++◌, length, take, drop, replicate};
 ghost use Rattle.rules.specs.Bytes.{bytes, number, part, splice};
 ghost use Rattle.rules.specs.Words.{has, gain, lose, without, lowest, size_of, wholes, signed, modulo_add, linked, count_of, link_of, recount};
 ghost use Rattle.words.specs.Highest.{highest};
@@ -24,7 +24,7 @@ pub fn whole_sizes(n: u32, size: u32) -> u32
     requires { (n ≤ 2 ^ 22) × (0 < size) × (size ≤ 32) }
     ensures { (result ≡ wholes n size) × (result * size < 2 ^ 32) }
 {
-    (n + size - 1) / size
+    n.div_ceil(size)
 }
 
 // "Every address sum wraps at 2^32; with modulo m above 0 only the low m bits move." A descriptor's modulo has 5 bits.
@@ -32,7 +32,7 @@ pub fn modulo_add(addr: u32, delta: u32, m: u32) -> u32
     requires { m < 32 }
     ensures { result ≡ modulo_add addr delta m }
 {
-    let sum = std::num::wrapping_add_u32(addr, delta);
+    let sum = addr.wrapping_add(delta);
     if m == 0 {
         return sum;
     }
@@ -44,14 +44,10 @@ pub fn modulo_add(addr: u32, delta: u32, m: u32) -> u32
 pub fn signed16(n: u16) -> u32
     ensures { result ≡ signed 16 n }
 {
-    if n < 0x8000 {
-        n as u32
-    } else {
-        (n as u32) + 0xFFFF0000
-    }
+    (n.cast_signed() as i32).cast_unsigned()
 }
 
-// "The offset is the signed 20 bits 29..10": what is added for it in a sum that wraps at 2^32.
+// "The offset is the signed 20 bits 29..10": what is added for it in a sum that wraps at 2^32. It stays worked out by hand: no type has 20 bits.
 pub fn signed20(n: u32) -> u32
     requires { n < 2 ^ 20 }
     ensures { result ≡ signed 20 n }
@@ -59,142 +55,128 @@ pub fn signed20(n: u32) -> u32
     if n < 0x80000 { n } else { n + 0xFFF00000 }
 }
 
-// ---- bytes with the lowest first, and words swapped: the compiler joins such bytes into one load or store, of 8 bytes too, and sees one swap.
-// Bytes with the highest first stay apart where a store and a load of them meet.
+// ---- "Memory is big-endian": words of 1, 2, 4 and 8 bytes. Their bytes are taken and laid down together, so that the compiler makes of them one
+// load or store, and one swap, whatever other accesses stand near.
 
-// The bytes of a word the other way round.
-fn swap2(v: u16) -> u16
-    ensures { result ≡ number (reverse (bytes 2 v)) }
+// The N bytes at `at`.
+fn bytes_at<const N: usize>(s: &[u8], at: usize) -> [u8; N]
+    requires { at + N ≤ length s.now }
+    ensures { result ≡ part s.now at N }
 {
-    (v % 0x100) * 0x100 + v / 0x100
+    let mut found = [0; N];
+    found.copy_from_slice(&s[at..at + N]);
+    found
 }
 
-fn swap4(v: u32) -> u32
-    ensures { result ≡ number (reverse (bytes 4 v)) }
+// N bytes laid over those at `at`.
+fn lay<const N: usize>(s: &mut [u8], at: usize, laid: &[u8; N])
+    requires { at + N ≤ length s.old }
+    ensures { s.new ≡ splice s.old at laid.now }
 {
-    (v % 0x100) * 0x1000000
-        + (v / 0x100 % 0x100) * 0x10000
-        + (v / 0x10000 % 0x100) * 0x100
-        + v / 0x1000000
+    s[at..at + N].copy_from_slice(laid);
 }
 
-fn swap8(v: u64) -> u64
-    ensures { result ≡ number (reverse (bytes 8 v)) }
-{
-    swap4((v % 0x100000000) as u32) as u64 * 0x100000000 + swap4((v / 0x100000000) as u32) as u64
+// A number that stands in memory.
+pub trait Word: Copy {
+    // its bytes there, and the number that a value stands for
+    ghost width: { ℕ };
+
+    ghost stands_for: { Self → ℕ };
+
+    fn read(s: &[u8], at: usize) -> Self
+        requires { at + width ≤ length s.now }
+        ensures { stands_for result ≡ number (part s.now at width) };
+
+    fn write(self, s: &mut [u8], at: usize)
+        requires { at + width ≤ length s.old }
+        ensures { s.new ≡ splice s.old at (bytes width (stands_for self)) };
+
+    // a value is told by its number
+    ghost told_by_number: { (v w : Self) → stands_for v ≡ stands_for w → v ≡ w };
 }
 
-// The number at `at`, with its lowest byte first: each width is two of the half.
-fn low2(s: &[u8], at: usize) -> u16
-    requires { at + 2 ≤ length s.now }
-    ensures { result ≡ number (reverse (part s.now at 2)) }
-{
-    let low = get1(s, at) as u16;
-    let high = get1(s, at + 1) as u16;
-    high * 0x100 + low
+// ---- its types, each with an impl of its own: no macro of this repository may write one
+
+impl Word for u8 {
+    ghost width = { 1 };
+
+    ghost stands_for = { λ v. v };
+
+    ghost told_by_number = { λ _ _ e. e };
+
+    fn read(s: &[u8], at: usize) -> u8 {
+        u8::from_be_bytes(bytes_at(s, at))
+    }
+
+    fn write(self, s: &mut [u8], at: usize) {
+        lay(s, at, &self.to_be_bytes());
+    }
 }
 
-fn low4(s: &[u8], at: usize) -> u32
-    requires { at + 4 ≤ length s.now }
-    ensures { result ≡ number (reverse (part s.now at 4)) }
-{
-    let low = low2(s, at) as u32;
-    let high = low2(s, at + 2) as u32;
-    high * 0x10000 + low
+impl Word for u16 {
+    ghost width = { 2 };
+
+    ghost stands_for = { λ v. v };
+
+    ghost told_by_number = { λ _ _ e. e };
+
+    fn read(s: &[u8], at: usize) -> u16 {
+        u16::from_be_bytes(bytes_at(s, at))
+    }
+
+    fn write(self, s: &mut [u8], at: usize) {
+        lay(s, at, &self.to_be_bytes());
+    }
 }
 
-fn low8(s: &[u8], at: usize) -> u64
-    requires { at + 8 ≤ length s.now }
-    ensures { result ≡ number (reverse (part s.now at 8)) }
-{
-    let low = low4(s, at) as u64;
-    let high = low4(s, at + 4) as u64;
-    high * 0x100000000 + low
+impl Word for u32 {
+    ghost width = { 4 };
+
+    ghost stands_for = { λ v. v };
+
+    ghost told_by_number = { λ _ _ e. e };
+
+    fn read(s: &[u8], at: usize) -> u32 {
+        u32::from_be_bytes(bytes_at(s, at))
+    }
+
+    fn write(self, s: &mut [u8], at: usize) {
+        lay(s, at, &self.to_be_bytes());
+    }
 }
 
-// The same stored.
-fn lay2(s: &mut [u8], at: usize, v: u16)
-    requires { at + 2 ≤ length s.old }
-    ensures { s.new ≡ splice s.old at (reverse (bytes 2 v)) }
-{
-    put1(s, at, (v % 0x100) as u8);
-    put1(s, at + 1, (v / 0x100) as u8);
+impl Word for u64 {
+    ghost width = { 8 };
+
+    ghost stands_for = { λ v. v };
+
+    ghost told_by_number = { λ _ _ e. e };
+
+    fn read(s: &[u8], at: usize) -> u64 {
+        u64::from_be_bytes(bytes_at(s, at))
+    }
+
+    fn write(self, s: &mut [u8], at: usize) {
+        lay(s, at, &self.to_be_bytes());
+    }
 }
 
-fn lay4(s: &mut [u8], at: usize, v: u32)
-    requires { at + 4 ≤ length s.old }
-    ensures { s.new ≡ splice s.old at (reverse (bytes 4 v)) }
+// ---- a word of any type, read and stored
+
+// The word at `at`.
+pub fn get<W: Word>(s: &[u8], at: usize) -> W
+    requires { at + W.width ≤ length s.now }
+    ensures { W.stands_for result ≡ number (part s.now at W.width) }
 {
-    lay2(s, at, (v % 0x10000) as u16);
-    lay2(s, at + 2, (v / 0x10000) as u16);
+    W::read(s, at)
 }
 
-fn lay8(s: &mut [u8], at: usize, v: u64)
-    requires { at + 8 ≤ length s.old }
-    ensures { s.new ≡ splice s.old at (reverse (bytes 8 v)) }
+// The same stored: its bytes are laid over those at `at`.
+pub fn put<W: Word>(s: &mut [u8], at: usize, v: W)
+    requires { at + W.width ≤ length s.old }
+    ensures { s.new ≡ splice s.old at (bytes W.width (W.stands_for v)) }
 {
-    lay4(s, at, (v % 0x100000000) as u32);
-    lay4(s, at + 4, (v / 0x100000000) as u32);
-}
-
-// ---- "Memory is big-endian": the number of 1, 2, 4 or 8 bytes at `at`. It is read with the lowest byte first, and swapped.
-
-pub fn get1(s: &[u8], at: usize) -> u8
-    requires { at + 1 ≤ length s.now }
-    ensures { result ≡ number (part s.now at 1) }
-{
-    s[at]
-}
-
-pub fn get2(s: &[u8], at: usize) -> u16
-    requires { at + 2 ≤ length s.now }
-    ensures { result ≡ number (part s.now at 2) }
-{
-    swap2(low2(s, at))
-}
-
-pub fn get4(s: &[u8], at: usize) -> u32
-    requires { at + 4 ≤ length s.now }
-    ensures { result ≡ number (part s.now at 4) }
-{
-    swap4(low4(s, at))
-}
-
-pub fn get8(s: &[u8], at: usize) -> u64
-    requires { at + 8 ≤ length s.now }
-    ensures { result ≡ number (part s.now at 8) }
-{
-    swap8(low8(s, at))
-}
-
-// ---- the same stored: the bytes of `v` are laid over those at `at`. It is swapped, and laid with the lowest byte first.
-
-pub fn put1(s: &mut [u8], at: usize, v: u8)
-    requires { at + 1 ≤ length s.old }
-    ensures { s.new ≡ splice s.old at (bytes 1 v) }
-{
-    s[at] = v;
-}
-
-pub fn put2(s: &mut [u8], at: usize, v: u16)
-    requires { at + 2 ≤ length s.old }
-    ensures { s.new ≡ splice s.old at (bytes 2 v) }
-{
-    lay2(s, at, swap2(v));
-}
-
-pub fn put4(s: &mut [u8], at: usize, v: u32)
-    requires { at + 4 ≤ length s.old }
-    ensures { s.new ≡ splice s.old at (bytes 4 v) }
-{
-    lay4(s, at, swap4(v));
-}
-
-pub fn put8(s: &mut [u8], at: usize, v: u64)
-    requires { at + 8 ≤ length s.old }
-    ensures { s.new ≡ splice s.old at (bytes 8 v) }
-{
-    lay8(s, at, swap8(v));
+    v.write(s, at);
 }
 
 // ---- counts. "If bit 15 of a count is set, the count is its low 9 bits and bits 14..9 the link; else it is the low 15 bits with no link."
@@ -234,7 +216,8 @@ pub fn recounted(raw: u16, n: u16) -> u16
     }
 }
 
-// ---- masks of 64 bits: bit `i` asked, gained, lost
+// ---- masks of 64 bits: bit `i` asked, gained, lost. The place stays a number: nearly all callers give a literal or a channel, and a type with the bound
+// would be one more word at each call.
 
 pub fn has_bit(x: u64, i: usize) -> bool
     requires { i < 64 }
@@ -269,7 +252,7 @@ pub fn lowest_bit(x: u64) -> usize
     requires { 0 < x }
     ensures { (result ≡ lowest x) × (result < 64) }
 {
-    u64::trailing_zeros(x) as usize
+    x.trailing_zeros() as usize
 }
 
 // "Leading zeros walk deliverable sources downwards": the highest set bit.
@@ -277,7 +260,7 @@ pub fn highest_bit(x: u64) -> usize
     requires { 0 < x }
     ensures { (result ≡ highest x) × (result < 64) }
 {
-    (63 - u64::leading_zeros(x)) as usize
+    x.ilog2() as usize
 }
 
 // ---- words of a width that a store can have: where the width is a constant, its arm alone is left
@@ -287,10 +270,10 @@ pub fn get_width(s: &[u8], at: usize, width: usize) -> u64
     ensures { result ≡ number (part s.now at width) }
 {
     match width {
-        1 => get1(s, at) as u64,
-        2 => get2(s, at) as u64,
-        4 => get4(s, at) as u64,
-        _ => get8(s, at),
+        1 => get::<u8>(s, at) as u64,
+        2 => get::<u16>(s, at) as u64,
+        4 => get::<u32>(s, at) as u64,
+        _ => get(s, at),
     }
 }
 
@@ -299,30 +282,28 @@ pub fn put_width(s: &mut [u8], at: usize, width: usize, value: u64)
     ensures { s.new ≡ splice s.old at (bytes width value) }
 {
     match width {
-        1 => put1(s, at, (value % 0x100) as u8),
-        2 => put2(s, at, (value % 0x10000) as u16),
-        4 => put4(s, at, (value % 0x100000000) as u32),
-        _ => put8(s, at, value),
+        1 => put(s, at, (value % 0x100) as u8),
+        2 => put(s, at, (value % 0x10000) as u16),
+        4 => put(s, at, (value % 0x100000000) as u32),
+        _ => put(s, at, value),
     }
 }
 
 // ---- the lower of two numbers, and zeros
 
-// A function of its own, so that its caller has no branch.
+// `min` of std, under the name that docs/DECISIONS.md has for it.
 pub fn least(a: usize, b: usize) -> usize
     ensures { result ≡ min a b }
 {
-    if a < b { a } else { b }
+    a.min(b)
 }
 
-// Zeros from `from` up to `to`; the rest stays.
+// Zeros from `from` up to `to`; the rest stays. It stays a loop: `fill` stores the last byte apart, in 26 instructions where this takes 10.
 pub fn clear(s: &mut [u8], from: usize, to: usize)
     requires { (from ≤ to) × (to ≤ length s.old) }
     ensures { s.new ≡ take from s.old ++ replicate (to - from) 0 ++ drop to s.old }
 {
-    let mut left = to - from;
-    while 0 < left {
-        left -= 1;
-        s[from + left] = 0;
+    for i in from..to {
+        s[i] = 0;
     }
 }

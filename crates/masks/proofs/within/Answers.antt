@@ -1,12 +1,8 @@
--- `masks::within` meets its contract. One line for each side of `&&`. Assumes nothing.
+-- `masks::within` meets its contract: no number of the range is spent yet. Assumes nothing.
+use Rattle.std.proofs.Common.{◌∙◌, rules}
 use Rattle.rules.specs.Registers.{within}
-use borrow.Author.Tests.{le-leb, lt-leb}
 use Rattle.masks.proofs.within.Goals as goal
 
-pub returns-then-lo-off : goal.returns-then-lo-off
+pub returns : goal.returns
 unfolding within
-returns-then-lo-off c = rw (le-leb _ _ c.if-lo-off.true)
-
-pub returns-else-lo-off : goal.returns-else-lo-off
-unfolding within
-returns-else-lo-off c = rw (lt-leb _ _ c.if-lo-off.false)
+returns c = c.contains.ensures.value ∙ rw (c.new.ensures.start, c.new.ensures.end, c.new.ensures.exhausted) (search rules)

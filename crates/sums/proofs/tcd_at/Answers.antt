@@ -4,4 +4,4 @@ use Rattle.sums.proofs.tcd_at.Goals as goal
 
 pub returns : goal.returns
 returns c =
-    tcd_read _ _ c.get4.ensures c.get2.ensures c.get2-2.ensures c.get4-2.ensures c.get4-3.ensures c.get4-4.ensures c.get2-3.ensures c.get2-4.ensures c.get4-5.ensures c.get2-5.ensures c.get2-6.ensures
+    tcd_read _ _ c.get.ensures c.get-2.ensures c.get-3.ensures c.get-4.ensures c.get-5.ensures c.get-6.ensures c.get-7.ensures c.get-8.ensures c.get-9.ensures c.get-10.ensures c.get-11.ensures

@@ -1,33 +1,35 @@
--- `words::clear` meets its contract. The loop's invariant: behind the bytes that are left all is zero up to `to`. Assumes nothing.
-use Rattle.words.proofs.Wide.{zeros_none, zeros_turn, zeros_all}
-use Rattle.std.proofs.Common.{refl, arith, length-set}
+-- `words::clear` meets its contract. The loop's invariant: from `from` up to here all is zero, and the rest is as it was. Assumes nothing.
+use Rattle.std.proofs.Common.{◌≡◌, ◌+◌, ◌-◌, ◌++◌, ℕ, List, [], take, drop, set, replicate, sym, ap, subst, ◌∙◌, append_assoc, arith}
+use Rattle.std.proofs.lemmas.List.{length-replicate}
+use Rattle.std.proofs.lemmas.List.Edits.{paste_none, paste_all, fill_from_more}
+use Rattle.std.proofs.Math.Seq.{paste}
 use Rattle.words.proofs.clear.Goals as goal
 
-pub overflow_sub-left : goal.overflow_sub-left
-overflow_sub-left c = omega arith
+pub loop-i-init : goal.loop-i-init
+loop-i-init c =
+    let none : c.args.from - c.args.from ≡ 0 = omega arith in
+    rw none (paste_none c.args.s.now c.args.from [])
 
-pub loop-left-init : goal.loop-left-init
-loop-left-init c = (omega arith, zeros_none _ _ _, refl)
-
-pub overflow_sub-left-in-loop-left : goal.overflow_sub-left-in-loop-left
-overflow_sub-left-in-loop-left c = omega arith
-
-pub overflow_add-s : goal.overflow_add-s
-overflow_add-s c = omega arith
-
-pub bounds-s-from : goal.bounds-s-from
-bounds-s-from c = omega arith
-
-pub loop-left-smaller : goal.loop-left-smaller
-loop-left-smaller c = omega arith
-
-pub loop-left-preserved : goal.loop-left-preserved
-loop-left-preserved c =
-    let inv = c.loop-left.invariant in
-    (omega arith, zeros_turn _ _ _ _ _ (omega arith) (omega arith) inv.1, simp length-set (omega arith))
-
-pub shape_of-s : goal.shape_of-s
-shape_of-s c = omega arith
+pub loop-i-preserved : goal.loop-i-preserved
+loop-i-preserved c =
+    let s = c.args.s.now in
+    let from = c.args.from in
+    let n : ℕ = c.loop-i.i - from in
+    let here : from + n ≡ c.loop-i.i = omega arith in
+    let next : n + 1 ≡ c.loop-i.i + 1 - from = omega arith in
+    ap (λ (l : List ℕ). set l c.loop-i.i 0) c.loop-i.invariant
+    ∙ subst (λ (k : ℕ). set (paste s from (replicate n 0) n) k 0 ≡ paste s from (replicate (n + 1) 0) (n + 1)) here (fill_from_more s from n 0 (omega arith))
+    ∙ ap (λ (k : ℕ). paste s from (replicate k 0) k) next
 
 pub returns : goal.returns
-returns c = zeros_all _ _ _ _ _ (omega arith) refl (omega arith) (omega arith) c.loop-left.invariant.1
+returns c =
+    let s = c.args.s.now in
+    let from = c.args.from in
+    let n : ℕ = c.args.to - from in
+    let all : c.loop-i.i ≡ c.args.to = omega arith in
+    let end : from + n ≡ c.args.to = omega arith in
+    c.loop-i.invariant
+    ∙ ap (λ (i : ℕ). paste s from (replicate (i - from) 0) (i - from)) all
+    ∙ paste_all s from (replicate n 0) n (sym (length-replicate n 0))
+    ∙ sym (append_assoc (take from s) (replicate n 0) (drop (from + n) s))
+    ∙ ap (λ (i : ℕ). take from s ++ replicate n 0 ++ drop i s) end

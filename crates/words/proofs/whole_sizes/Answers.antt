@@ -1,9 +1,9 @@
--- `words::whole_sizes` meets its contract: the bounds that it requires keep the sum and the product in range. Assumes nothing.
-use Rattle.std.proofs.Common.{refl, arith}
-use Rattle.rules.specs.Words.{wholes}
-use Rattle.words.proofs.Laws.{wholes_fit}
+-- `words::whole_sizes` meets its contract: the bounds that it requires keep the product in range. Assumes nothing.
+use Rattle.std.proofs.Common.{◌∙◌, arith}
+use Rattle.words.proofs.Laws.{wholes_up, wholes_fit}
 use Rattle.words.proofs.whole_sizes.Goals as goal
 
 pub returns : goal.returns
-unfolding wholes
-returns c = (refl, wholes_fit _ _ (omega arith) (omega arith))
+returns c =
+    let up = c.div_ceil.ensures ∙ wholes_up c.args.n c.args.size (omega arith) in
+    (up, rw up (wholes_fit _ _ (omega arith) (omega arith)))

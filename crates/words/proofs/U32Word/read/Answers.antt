@@ -1,0 +1,9 @@
+-- `words::U32Word::read` meets its contract: the bytes found, the highest first. Assumes nothing.
+use Rattle.std.proofs.Common.{ap, ◌∙◌, w32, arith}
+use Rattle.std.specs.Int.{from_be_bytes}
+use Rattle.rules.specs.Bytes.{number, part}
+use Rattle.words.proofs.U32Word.read.Goals as goal
+
+pub returns : goal.returns
+unfolding number part
+returns c = c.from_be_bytes.ensures ∙ ap (from_be_bytes w32) c.bytes_at.ensures ∙ omega arith

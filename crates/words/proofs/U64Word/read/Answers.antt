@@ -1,0 +1,9 @@
+-- `words::U64Word::read` meets its contract: the bytes found, the highest first. Assumes nothing.
+use Rattle.std.proofs.Common.{ap, ◌∙◌, w64, arith}
+use Rattle.std.specs.Int.{from_be_bytes}
+use Rattle.rules.specs.Bytes.{number, part}
+use Rattle.words.proofs.U64Word.read.Goals as goal
+
+pub returns : goal.returns
+unfolding number part
+returns c = c.from_be_bytes.ensures ∙ ap (from_be_bytes w64) c.bytes_at.ensures ∙ omega arith

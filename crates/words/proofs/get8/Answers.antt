@@ -1,6 +1,0 @@
--- `words::get8` meets its contract: the number with the lowest byte first, swapped. Assumes nothing.
-use Rattle.words.proofs.Swap.{get_swapped}
-use Rattle.words.proofs.get8.Goals as goal
-
-pub returns : goal.returns
-returns c = get_swapped 8 _ _ (λ i. (c.type_inv.s i).fits) c.low8.ensures c.swap8.ensures
