@@ -138,7 +138,7 @@ fn put_row<T: Held>(image: &mut [u8], from: usize, v: &[T])
     }
 }
 
-// The low six bits of each: a row of its own, as these are not the numbers that stand in the device.
+// The low six bits of each. It stays beside `put_row`: by a type of their own the bytes would be copied first, which is no plainer.
 fn put_sixes(image: &mut [u8], from: usize, v: &[u8])
     requires { 2064 + 8 * (from + length v.now) ≤ length image.old }
     ensures { image.new ≡ splice image.old (2064 + 8 * from) (laid (map (λ (x : ℕ). x % 64) v.now)) }
@@ -377,7 +377,7 @@ fn fits(image: &[u8], from: usize, count: usize, bits: usize) -> bool
     most >> bits == 0
 }
 
-// The first numbers of `a` are those of `v`.
+// The first numbers of `a` are those of `v`. It stays a loop: `starts_with` leaves at the first that differs, and the compiler sees no wide compare.
 fn begins_with(a: &[u64], v: &[u64]) -> bool
     requires { length v.now ≤ length a.now }
     ensures { result ≡ alike (part a.now 0 (length v.now)) v.now }
