@@ -1,5 +1,11 @@
 -- The bytes that are an image, number by number: the device that stands in them is laid down as they are exactly if the settings' bytes are
 -- those of settings and no number is wider than its bits. Assumes nothing.
+use Rattle.std.specs.List.{starts_with}
+use Rattle.std.specs.Cmp.Lexicographic.{pointwise, same_text, other_text}
+use Rattle.std.proofs.Common.{nat_eq}
+use lib.ListN.{take}
+use Rattle.rules.proofs.Cut.{part_cut}
+use Rattle.image.proofs.Laws.{length_numbers, alike_same, alike_self}
 use mathlib.Core.Bool.{Bool, true, false, cond, ◌&&◌, false≢true, and_assoc, and-true}
 use mathlib.Core.List.{List, [], ◌∷◌, ◌++◌}
 use mathlib.Core.Path.{◌≡◌, refl, sym, ap, ap₂, ◌∙◌, subst}
@@ -9,9 +15,8 @@ use native.Mathlib.Nat.{zero-add, add-zero, add-suc, suc-add, zero-mul, sub-zero
 use native.Mathlib.Omega.{arith}
 use borrow.Author.Tests.{eqb-true, eq-eqb, ltb-true, lt-ltb}
 use lib.Dec.{eqb, ltb}
-use lib.ListN.{length, get_or, set, drop, replicate, length-append}
+use lib.ListN.{length, get_or, set, replicate, length-append}
 use lib.Pow.{pow_pos, split}
-use lib.Seq.{drop-cons, drop-length}
 use Rattle.rules.specs.Bytes.{Bytes, bytes, number, part}
 use Rattle.rules.specs.Fields.{joined, masks_of, own_of, parts_of, fields_of}
 use Rattle.rules.specs.Scalars.{scalar_bits}
@@ -251,23 +256,20 @@ pub held_small : (chip : Bool) {bits : ℕ} → bits ≡ held_bits chip → bits
 held_small true e = omega (arith, e)
 held_small false e = omega (arith, e)
 
--- the first numbers of a list, and others beside them
-module _ (a v : List ℕ) where
-  pub first_none : true ≡ alike (part a (length v) (length v - length v)) (drop (length v) v)
-  unfolding part alike
-  first_none = rw (sub_self (length v), drop-length v)
+-- std's test of a list's first numbers
+same_numbers : (xs ys : List ℕ) → pointwise nat_eq ys xs ≡ alike xs ys
+same_numbers xs ys = by (pointwise nat_eq ys xs) refl
+  where
+    no : (t : Bool) → alike xs ys ≡ t → (ys ≡ xs → ⊥) → false ≡ alike xs ys
+    no true e h = absurd (h (sym (alike_same xs ys e)))
+    no false e h = sym e
 
-  pub first-turn : (l k : ℕ) (same : Bool) → suc k ≡ l → l ≤ length v → same ≡ alike (part a l (length v - l)) (drop l v)
-      → eqb (get_or a k 0) (get_or v k 0) && same ≡ alike (part a k (length v - k)) (drop k v)
-  unfolding part alike
-  first-turn l k same e h p =
-      let more : suc (length v - l) ≡ length v - k = omega (arith, e) in
-      let rest : Bool = alike (part a (suc k) (length v - l)) (drop (suc k) v) in
-      let next : alike (part a l (length v - l)) (drop l v) ≡ rest = ap (λ n. alike (part a n (length v - l)) (drop n v)) (sym e) in
-      ap (λ t. eqb (get_or a k 0) (get_or v k 0) && t) (p ∙ next) ∙ rw (← more, drop-cons v k 0 (omega (arith, e))) (sym (cond_and (eqb (get_or a k 0) (get_or v k 0)) rest))
+    by : (t : Bool) → pointwise nat_eq ys xs ≡ t → t ≡ alike xs ys
+    by true e = let s : ys ≡ xs = same_text ys xs (sym e) in sym (ap (alike xs) s ∙ alike_self xs)
+    by false e = no (alike xs ys) refl (other_text ys xs (sym e))
 
-  pub first_all : (left : ℕ) (same : Bool) → left ≡ 0 → same ≡ alike (part a left (length v - left)) (drop left v) → same ≡ alike (part a 0 (length v)) v
-  first_all left same e p = p ∙ ap (λ n. alike (part a n (length v - n)) (drop n v)) e ∙ rw (sub-zero (length v))
+begins : (a v : List ℕ) → length v ≤ length a → starts_with nat_eq a v ≡ alike (part a 0 (length v)) v
+begins a v h = same_numbers (take (length v) a) v ∙ ap (λ l. alike l v) (sym (part_cut a 0 (length v) (omega arith)))
 
 -- the settings, in two numbers of 8 bytes
 pub setting_fit : (b : List ℕ) {f x y : ℕ} → Bytes b → f ≡ flags (eqb (get_or b 2048 0) 1) (chip_in b)
@@ -296,12 +298,12 @@ numbers_part bits b n k i (suc j) h =
 
 -- the numbers that stand alone, taken from a list and listed again
 pub scalars_fit_lem : (b : List ℕ) {first scalars listed : List ℕ} {q r : Bool} → Bytes b → first ≡ numbers_in 64 b 0 16 → scalars ≡ cut 0 scalar_bits first → listed ≡ scalars
-    → q ≡ alike (part first 0 (length listed)) listed → r ≡ fits_in (replicate (16 - length scalar_bits) 0) b (length scalar_bits) → q && r ≡ scalars_fit b
+    → q ≡ starts_with nat_eq first listed → r ≡ fits_in (replicate (16 - length scalar_bits) 0) b (length scalar_bits) → q && r ≡ scalars_fit b
 unfolding scalars_fit scalars_in
 scalars_fit_lem b {listed = listed} h p s e q r =
     let read : part (numbers_in 64 b 0 16) 0 (length scalar_bits) ≡ numbers_in 64 b 0 (length scalar_bits) = numbers_part 64 b 0 16 0 (length scalar_bits) (omega arith) in
     let again : listed ≡ scalars_in scalar_bits b 0 = e ∙ scalars_got b p s in
-    ap₂ ◌&&◌ (q ∙ ap₂ (λ f l. alike (part f 0 (length l)) l) p again ∙ ap (λ l. alike l (scalars_in scalar_bits b 0)) read ∙ numbers_fit b h scalar_bits 0) r
+    ap₂ ◌&&◌ (q ∙ ap₂ (starts_with nat_eq) p again ∙ begins (numbers_in 64 b 0 16) (scalars_in scalar_bits b 0) (omega (arith, length_numbers 64 b 0 16)) ∙ ap (λ l. alike l (scalars_in scalar_bits b 0)) read ∙ numbers_fit b h scalar_bits 0) r
 
 -- a controller's own four, of which ICONFIG is narrow
 four_fit : (b rest : List ℕ) (n : ℕ) → fits_in (64 ∷ 64 ∷ 64 ∷ 16 ∷ rest) b n ≡ fits_in (replicate 1 16) b (suc (suc (suc n))) && fits_in rest b (suc (suc (suc (suc n))))

@@ -3,7 +3,7 @@ use mathlib.Core.Bool.{Bool, true, false, cond, ◌&&◌, false≢true}
 use mathlib.Core.List.{List, [], ◌∷◌, ◌++◌, map, append-nil}
 use mathlib.Core.Path.{◌≡◌, refl, sym, ap, ap₂, subst, ◌∙◌}
 use Prim.Native.Nat.{ℕ, zero, suc, ◌+◌, ◌-◌, ◌*◌, ◌%◌, ◌^◌, ◌≤◌, ◌<◌}
-use native.Mathlib.Nat.{mod-eq_of_lt, zero-add, add-zero, add-suc, suc-add, sub-zero, sub_self, le_antisymm, not-suc-le-zero, le_of_suc-le-suc}
+use native.Mathlib.Nat.{zero-add, add-zero, add-suc, suc-add, sub-zero, sub_self, le_antisymm, not-suc-le-zero, le_of_suc-le-suc}
 use native.Mathlib.Omega.{arith}
 use borrow.Author.Tests.{eqb-true, eq-eqb, leb-true}
 use lib.Dec.{eqb, leb}
@@ -11,7 +11,7 @@ use lib.ListN.{length, get_or, set, drop, length-append, length-map, drop_of_len
 use lib.Seq.{drop-cons, drop-length}
 use Rattle.rules.specs.Bytes.{bytes, number, part, splice}
 use Rattle.rules.specs.Scalars.{scalar_bits}
-use Rattle.rules.proofs.BytesLaws.{splice_append, splice_comm, splice_nil, length_part, length_bytes}
+use Rattle.rules.proofs.BytesLaws.{splice_append, splice_comm, splice_nil, length_bytes}
 use Rattle.rules.proofs.Cut.{splice_cut}
 use Rattle.rules.proofs.Powers.{low-low}
 use Rattle.rules.proofs.ScalarLaws.{scalar_bits_lem}
@@ -92,10 +92,6 @@ flags-put x y z ignore chip f e p q =
     ∙ ap (splice x 2048) (ap (λ n. bytes 8 n ++ bytes 8 0) e ∙ flags-laid ignore chip)
 
 -- ---- reading
-
-pub number_wide : (b : List ℕ) (n r : ℕ) → r ≡ number (part b (2064 + 8 * n) 8) → r < 2 ^ 64 → r ≡ number_in 64 b n
-unfolding number_in
-number_wide b n r e h = sym (mod-eq_of_lt h) ∙ ap (λ m. m % 2 ^ 64) e
 
 pub length_numbers : (bits : ℕ) (b : List ℕ) (n k : ℕ) → length (numbers_in bits b n k) ≡ k
 unfolding numbers_in

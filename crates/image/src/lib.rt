@@ -138,7 +138,7 @@ fn put_row<T: Held>(image: &mut [u8], from: usize, v: &[T])
     }
 }
 
-// The low six bits of each: a row of its own, as these are not the numbers that stand in the device.
+// The low six bits of each. It stays beside `put_row`: by a type of their own the bytes would be copied first, which is no plainer.
 fn put_sixes(image: &mut [u8], from: usize, v: &[u8])
     requires { 2064 + 8 * (from + length v.now) ≤ length image.old }
     ensures { image.new ≡ splice image.old (2064 + 8 * from) (laid (map (λ (x : ℕ). x % 64) v.now)) }
@@ -377,18 +377,6 @@ fn fits(image: &[u8], from: usize, count: usize, bits: usize) -> bool
     most >> bits == 0
 }
 
-// The first numbers of `a` are those of `v`.
-fn begins_with(a: &[u64], v: &[u64]) -> bool
-    requires { length v.now ≤ length a.now }
-    ensures { result ≡ alike (part a.now 0 (length v.now)) v.now }
-{
-    let mut same = true;
-    for k in (0..v.len()).rev() {
-        same = (a[k] == v[k]) & same;
-    }
-    same
-}
-
 // Bytes 2048 to 2063.
 fn setting_fits(image: &[u8]) -> bool
     requires { length image.now ≡ 8720 }
@@ -407,7 +395,7 @@ fn scalars_fit(image: &[u8]) -> bool
     get_row(image, 0, &mut first);
     let scalars = device::from_list(&first);
     let listed = device::listed(scalars);
-    begins_with(&first, &listed) & fits(image, listed.len(), 16 - listed.len(), 0)
+    first.starts_with(&listed) & fits(image, listed.len(), 16 - listed.len(), 0)
 }
 
 // Fields 16 to 63: of each controller's own four ICONFIG is narrow, and 0 is behind them.

@@ -48,7 +48,7 @@ fn put_line(journal: &[u8], at: usize, out: &mut [u8], to: usize)
     out[to + 32] = b'\n';
 }
 
-// "Mark 4A 52".
+// "Mark 4A 52". It stays beside that of crate `scan`: the one crate below both, `rules`, holds types and no code.
 #[tactic(auto, using(crate::proofs::Laws::mark_is))]
 fn is_marked(journal: &[u8], at: usize) -> bool
     requires { at + 16 ≤ length journal.now }

@@ -1,15 +1,11 @@
 -- `image::is_image` meets its contract. Assumes nothing.
-use Rattle.image.specs.Image.{chip_in}
-use Rattle.image.proofs.FitLaws.{held_small, image_asked}
+use Rattle.image.proofs.FitLaws.{image_asked}
 use Rattle.image.proofs.Rows.{no_image}
 use borrow.Author.Rules.{rules}
 use Rattle.image.proofs.is_image.Goals as goal
 
 pub returns-then-image-ne-BYTES : goal.returns-then-image-ne-BYTES
 returns-then-image-ne-BYTES c = no_image _ (search rules)
-
-pub fits-requires-4 : goal.fits-requires-4
-fits-requires-4 c = (search rules, held_small (chip_in c.args.image.now) c.held_bits.ensures)
 
 pub returns : goal.returns
 returns c =

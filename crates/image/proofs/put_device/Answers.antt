@@ -2,11 +2,7 @@
 use Rattle.image.proofs.Rows.{image_laid}
 use Rattle.rules.specs.View.{view}
 use Rattle.rules.proofs.Typed.{sound, table-size}
-use native.Mathlib.Omega.{arith}
 use Rattle.image.proofs.put_device.Goals as goal
-
-pub put_table-requires : goal.put_table-requires
-put_table-requires c = omega (arith, table-size c.args.d c.well_formed.1.0)
 
 pub returns : goal.returns
 returns c =

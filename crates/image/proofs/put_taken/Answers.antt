@@ -1,13 +1,9 @@
 -- `image::put_taken` meets its contract. Assumes nothing.
-use Rattle.image.proofs.Rows.{taken-laid, taken-long}
+use Rattle.image.proofs.Rows.{taken-laid}
 use Rattle.rules.specs.View.{view}
 use Rattle.rules.proofs.Typed.{sound}
-use native.Mathlib.Omega.{arith}
 use mathlib.Core.List.{[]}
 use Rattle.image.proofs.put_taken.Goals as goal
-
-pub put_row-requires : goal.put_row-requires
-put_row-requires c = omega (arith, taken-long (view c.args.d) (sound c.args.d c.well_formed.1.0))
 
 pub returns : goal.returns
 returns c =

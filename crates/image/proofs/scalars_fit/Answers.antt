@@ -5,4 +5,4 @@ use Rattle.image.proofs.scalars_fit.Goals as goal
 pub returns : goal.returns
 returns c =
     scalars_fit_lem _ (λ i. (c.type_inv.image i).fits) c.get_row.ensures c.from_list-scalars.ensures
-    c.listed-listed.ensures c.begins_with.ensures c.fits.ensures
+    c.listed-listed.ensures c.starts_with.ensures.value c.fits.ensures

@@ -6,7 +6,6 @@ use lib.ListN.{get_or}
 use mathlib.Core.Path.{◌≡◌, sym, ap, ◌∙◌}
 use native.Mathlib.Omega.{arith}
 use Prim.Native.Nat.{◌+◌, ◌-◌, ◌*◌, ◌/◌, ◌^◌}
-use Rattle.rules.specs.Bytes.{number, part}
 use Rattle.scan.proofs.all_sound.Goals as goal
 
 pub bytes-preserved : goal.bytes-preserved
