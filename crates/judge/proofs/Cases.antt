@@ -1,11 +1,11 @@
 -- The walk's definitions, by cases. Assumes nothing.
-use Rattle.std.proofs.Common.{◌≡◌, ℕ, zero, suc, ◌+◌, ◌-◌, ◌*◌, ◌/◌, ◌%◌, ◌^◌, ◌<◌, ◌≤◌, Bool, true, false, ◌&&◌, ◌||◌, eqb, ltb, ◌⊎◌, List, [], ◌∷◌, length, get_or, sym, refl, ap, ◌∙◌, inl, inr, mod-lt, mul_comm, mul-le-mul, arith, lit<, lit≤, le-ltb, lt-ltb, eq-eqb, ne_eqb, eqb-true}
+use Rattle.std.proofs.Common.{◌≡◌, ℕ, zero, suc, ◌+◌, ◌-◌, ◌*◌, ◌/◌, ◌%◌, ◌^◌, ◌<◌, ◌≤◌, min, Bool, true, false, ◌&&◌, ◌||◌, eqb, ltb, ◌⊎◌, List, [], ◌∷◌, ◌++◌, length, get_or, sym, refl, ap, ◌∙◌, inl, inr, mod-lt, mul_comm, add-zero, mul-le-mul, arith, lit<, lit≤, le-ltb, lt-ltb, eq-eqb, ne_eqb, eqb-true, Option, None, Some, Ok, Err}
 use Rattle.rules.specs.declared.Tcd.{Tcd}
 use Rattle.rules.specs.Bytes.{number, part}
 use Rattle.rules.specs.Minor.{ESG, ssize, dsize, minor_bytes}
 use Rattle.rules.specs.Words.{has, size_of, unit_of, wholes, wrap32, signed, count_of}
 use Rattle.words.specs.Sizes.{a_size, Sized}
-use Rattle.rules.proofs.BytesLaws.{part-part}
+use Rattle.rules.proofs.BytesLaws.{part-part, number_append}
 use Rattle.captures.specs.declared.Flaw.TheVariants as Flaw
 use Rattle.captures.specs.Capture.{mark_of, kind_in, width_of, address_of, value_of, flaw_of, record_at}
 use Rattle.captures.specs.declared.Due.{Due}
@@ -14,27 +14,18 @@ use Rattle.judge.specs.declared.Plan.{Plan}
 use Rattle.judge.specs.declared.Place.{Place}
 use Rattle.judge.specs.declared.Walk.{Walk}
 use Rattle.judge.specs.declared.Seen.{Seen}
-use Rattle.judge.specs.declared.Record.{Record}
 use Rattle.judge.specs.declared.Course.{Course}
-use Rattle.judge.specs.Walks.{a_unit, Parted, Narrow, Fitting, Within, Sane, Safe, side_of, reads_of, plan_of, place_at, next_unit, advanced, fetch_on, ending_of, moves_from, writes_from, reads_from, start_of, move_on, read_on, write_on, onward_of, unit_at, source_byte, source_bytes, source_number, place_of, due_of, seen_in, unless_unfit, looked_at, meets_due, walk_on, step_of, on_all}
+use Rattle.judge.specs.Walks.{Record, departed_at, a_unit, Parted, Narrow, Fitting, Within, Sane, Safe, side_of, reads_of, plan_of, place_at, next_unit, advanced, fetch_on, ending_of, moves_from, writes_from, reads_from, start_of, move_on, read_on, write_on, onward_of, unit_at, source_byte, source_bytes, source_number, place_of, due_of, seen_in, unless_unfit, looked_at, meets_due, walk_on, step_of, on_all}
 
 -- ---- a size and its unit
 
-pub small : (n : ℕ) → a_size n → n < 4 → Parted n n
+pub parted : (n : ℕ) {m : ℕ} → a_size n → m ≡ min n 4 → Parted n m
 unfolding unit_of
-small n (inl e) h = rw e (record { is_unit = refl; which = inl refl; some_unit = lit< tt; unit_most = lit≤ tt; some_units = lit≤ tt; units_most = lit≤ tt })
-small n (inr (inl e)) h = rw e (record { is_unit = refl; which = inr (inl refl); some_unit = lit< tt; unit_most = lit≤ tt; some_units = lit≤ tt; units_most = lit≤ tt })
-small n (inr (inr (inl e))) h = absurd (omega arith)
-small n (inr (inr (inr (inl e)))) h = absurd (omega arith)
-small n (inr (inr (inr (inr e)))) h = absurd (omega arith)
-
-pub large : (n : ℕ) → a_size n → 4 ≤ n → Parted n 4
-unfolding unit_of
-large n (inl e) h = absurd (omega arith)
-large n (inr (inl e)) h = absurd (omega arith)
-large n (inr (inr (inl e))) h = rw e (record { is_unit = refl; which = inr (inr refl); some_unit = lit< tt; unit_most = lit≤ tt; some_units = lit≤ tt; units_most = lit≤ tt })
-large n (inr (inr (inr (inl e)))) h = rw e (record { is_unit = refl; which = inr (inr refl); some_unit = lit< tt; unit_most = lit≤ tt; some_units = lit≤ tt; units_most = lit≤ tt })
-large n (inr (inr (inr (inr e)))) h = rw e (record { is_unit = refl; which = inr (inr refl); some_unit = lit< tt; unit_most = lit≤ tt; some_units = lit≤ tt; units_most = lit≤ tt })
+parted n (inl e) h = rw (h, e) (record { is_unit = refl; which = inl refl; some_unit = lit< tt; unit_most = lit≤ tt; some_units = lit≤ tt; units_most = lit≤ tt })
+parted n (inr (inl e)) h = rw (h, e) (record { is_unit = refl; which = inr (inl refl); some_unit = lit< tt; unit_most = lit≤ tt; some_units = lit≤ tt; units_most = lit≤ tt })
+parted n (inr (inr (inl e))) h = rw (h, e) (record { is_unit = refl; which = inr (inr refl); some_unit = lit< tt; unit_most = lit≤ tt; some_units = lit≤ tt; units_most = lit≤ tt })
+parted n (inr (inr (inr (inl e)))) h = rw (h, e) (record { is_unit = refl; which = inr (inr refl); some_unit = lit< tt; unit_most = lit≤ tt; some_units = lit≤ tt; units_most = lit≤ tt })
+parted n (inr (inr (inr (inr e)))) h = rw (h, e) (record { is_unit = refl; which = inr (inr refl); some_unit = lit< tt; unit_most = lit≤ tt; some_units = lit≤ tt; units_most = lit≤ tt })
 
 -- ---- a side
 
@@ -217,53 +208,60 @@ module _ (sources : List ℕ) (origin unit read j : ℕ) where
   unfolding source_byte
   at_hand {n} e h l r = rw (← e, lt-ltb n read h, le-ltb n origin (omega (arith, l))) r
 
-  -- one, two and four bytes as a number
-  pub one_byte_lem : {a : ℕ} → a ≡ source_byte sources origin unit read j → a ≡ source_number sources origin unit read j 1
-  unfolding source_number source_bytes number
-  one_byte_lem e = rw (← e) (omega arith)
+module _ (sources : List ℕ) (origin unit read : ℕ) where
+  one_byte_more : (n j : ℕ) → source_bytes sources origin unit read j (suc n) ≡ source_bytes sources origin unit read j n ++ (source_byte sources origin unit read (j + n) ∷ [])
+  unfolding source_bytes
+  one_byte_more zero j = ap (λ (k : ℕ). source_byte sources origin unit read k ∷ []) (sym (add-zero j))
+  one_byte_more (suc n) j =
+      let place : j + 1 + n ≡ j + suc n = omega arith in
+      ap (λ (l : List ℕ). source_byte sources origin unit read j ∷ l)
+      (one_byte_more n (j + 1) ∙ ap (λ (k : ℕ). source_bytes sources origin unit read (j + 1) n ++ (source_byte sources origin unit read k ∷ [])) place)
 
-  pub two_bytes : {a b : ℕ} → a ≡ source_byte sources origin unit read j → b ≡ source_byte sources origin unit read (j + 1) → a * 256 + b ≡ source_number sources origin unit read j 2
-  unfolding source_number source_bytes number
-  two_bytes e f = rw (← e, ← f) (omega arith)
+  -- the number that one byte more spells
+  pub number_more : (n j : ℕ) {v b : ℕ} → v ≡ source_number sources origin unit read j n → b ≡ source_byte sources origin unit read (j + n) → v * 256 + b ≡ source_number sources origin unit read j (n + 1)
+  unfolding source_number number
+  number_more n j e f =
+      let next : n + 1 ≡ suc n = omega arith in
+      rw (next, e, f, one_byte_more n j, number_append (source_bytes sources origin unit read j n) (source_byte sources origin unit read (j + n) ∷ []))
+      (ap (λ (b : ℕ). number (source_bytes sources origin unit read j n) * 256 + b) (one_digit (source_byte sources origin unit read (j + n))))
+    where
+      one_digit : (b : ℕ) → b ≡ number (b ∷ [])
+      one_digit b = omega arith
 
-  pub four_bytes : {a b : ℕ} → a ≡ source_number sources origin unit read j 2 → b ≡ source_number sources origin unit read (j + 2) 2 → a * 65536 + b ≡ source_number sources origin unit read j 4
-  unfolding source_number source_bytes number
-  four_bytes e f =
-      let two : j + 1 + 1 ≡ j + 2 = omega arith in
-      let three : j + 1 + 1 + 1 ≡ j + 2 + 1 = omega arith in
-      rw (e, f, two) (omega arith)
-
-pub the_unit : (n : ℕ) → a_unit n → (n ≡ 1 → ⊥) → (n ≡ 2 → ⊥) → n ≡ 4
-the_unit n (inl e) a b = absurd (a e)
-the_unit n (inr (inl e)) a b = absurd (b e)
-the_unit n (inr (inr e)) a b = e
+-- four bytes fit 32 bits
+pub bytes_fit_one : (n v b : ℕ) → n < 4 → v < 256 ^ n → b < 256 → (v * 256 + b < 2 ^ 32) × (v * 256 + b < 256 ^ (n + 1))
+bytes_fit_one zero v b h l m = (omega arith, omega arith)
+bytes_fit_one (suc zero) v b h l m = (omega arith, omega arith)
+bytes_fit_one (suc (suc zero)) v b h l m = (omega arith, omega arith)
+bytes_fit_one (suc (suc (suc zero))) v b h l m = (omega arith, omega arith)
+bytes_fit_one (suc (suc (suc (suc n)))) v b h l m = absurd (omega arith)
 
 -- ---- what is due
 
 module _ (sources : List ℕ) (origin : ℕ) (p : Plan) where
-  pub due_move : (at : Place) {w : Walk} {a : ℕ} → w ≡ Walk.Move at → a ≡ unit_at p.source at.from at.unit → Due.Read a p.source.unit ≡ due_of sources origin p w
+  pub due_move : (at : Place) {w : Walk} {a : ℕ} → w ≡ Walk.Move at → a ≡ unit_at p.source at.from at.unit → ◌≡◌ {A = Option Due} (Some (Due.Read a p.source.unit)) (due_of sources origin p w)
   unfolding due_of
   due_move at e f = rw (e, f)
 
-  pub due_lay : (at : Place) (v : ℕ) {w : Walk} {a : ℕ} → w ≡ Walk.Lay at v → a ≡ unit_at p.source at.to at.unit → Due.Write a p.source.unit v ≡ due_of sources origin p w
+  pub due_lay : (at : Place) (v : ℕ) {w : Walk} {a : ℕ} → w ≡ Walk.Lay at v → a ≡ unit_at p.source at.to at.unit → ◌≡◌ {A = Option Due} (Some (Due.Write a p.source.unit v)) (due_of sources origin p w)
   unfolding due_of
   due_lay at v e f = rw (e, f)
 
-  pub due_read : (at : Place) {w : Walk} {a : ℕ} → w ≡ Walk.Read at → a ≡ unit_at p.source at.from at.unit → Due.Read a p.source.unit ≡ due_of sources origin p w
+  pub due_read : (at : Place) {w : Walk} {a : ℕ} → w ≡ Walk.Read at → a ≡ unit_at p.source at.from at.unit → ◌≡◌ {A = Option Due} (Some (Due.Read a p.source.unit)) (due_of sources origin p w)
   unfolding due_of
   due_read at e f = rw (e, f)
 
   pub due_write : (at : Place) (written read : ℕ) {a v : ℕ} → a ≡ unit_at p.dest at.to at.unit
       → v ≡ source_number sources origin p.source.unit read (place_of p.dest at written) p.dest.unit
-      → Due.Write a p.dest.unit v ≡ due_of sources origin p (Walk.Write at written read)
+      → ◌≡◌ {A = Option Due} (Some (Due.Write a p.dest.unit v)) (due_of sources origin p (Walk.Write at written read))
   unfolding due_of
   due_write at written read e f = rw (e, f)
 
-  pub due_fetch : (left a : ℕ) {w : Walk} → w ≡ Walk.Fetch left a → Due.Read (a % 2 ^ 32) 1 ≡ due_of sources origin p w
+  pub due_fetch : (left a : ℕ) {w : Walk} → w ≡ Walk.Fetch left a → ◌≡◌ {A = Option Due} (Some (Due.Read (a % 2 ^ 32) 1)) (due_of sources origin p w)
   unfolding due_of wrap32
   due_fetch left a e = rw e
 
-  pub due_over : {w : Walk} → w ≡ Walk.Over → Due.Nothing ≡ due_of sources origin p w
+  pub due_over : {w : Walk} → w ≡ Walk.Over → ◌≡◌ {A = Option Due} None (due_of sources origin p w)
   unfolding due_of
   due_over e = rw e
 
@@ -325,27 +323,27 @@ module _ (l : List ℕ) (o : ℕ) where
   value-here = here 8 8 (lit≤ tt)
 
   module _ {m : ℕ} (mark : m ≡ number (part l o 2)) where
-    pub no_mark : (m ≡ 0x4A52 → ⊥) → Record.Unfit Flaw.Mark ≡ looked_at (part l o 16)
+    pub no_mark : (m ≡ 0x4A52 → ⊥) → ◌≡◌ {A = Record} (Err Flaw.Mark) (looked_at (part l o 16))
     unfolding looked_at unless_unfit flaw_of
     no_mark h = rw (mark_here, ← mark, ne_eqb m 0x4A52 h)
 
     module _ (marked : m ≡ 0x4A52) {k : ℕ} (kind : k ≡ number (part l (o + 2) 1)) where
-      pub no_kind : (eqb k 4 || eqb k 5) ≡ false → Record.Unfit Flaw.Kind ≡ looked_at (part l o 16)
+      pub no_kind : (eqb k 4 || eqb k 5) ≡ false → ◌≡◌ {A = Record} (Err Flaw.Kind) (looked_at (part l o 16))
       unfolding looked_at unless_unfit flaw_of
       no_kind e = rw (mark_here, ← mark, eq-eqb m 0x4A52 marked, kind-here, ← kind, e)
 
       module _ (a-kind : (eqb k 4 || eqb k 5) ≡ true) {w : ℕ} (width : w ≡ number (part l (o + 3) 1)) where
-        pub bad_width : (eqb w 1 || eqb w 2 || eqb w 4) ≡ false → Record.Unfit Flaw.Width ≡ looked_at (part l o 16)
+        pub bad_width : (eqb w 1 || eqb w 2 || eqb w 4) ≡ false → ◌≡◌ {A = Record} (Err Flaw.Width) (looked_at (part l o 16))
         unfolding looked_at unless_unfit flaw_of
         bad_width e = rw (mark_here, ← mark, eq-eqb m 0x4A52 marked, kind-here, ← kind, a-kind, width-here, ← width, e)
 
         module _ (wide : (eqb w 1 || eqb w 2 || eqb w 4) ≡ true) {v : ℕ} (value : v ≡ number (part l (o + 8) 8)) where
-          pub too_wide : ltb v (256 ^ w) ≡ false → Record.Unfit Flaw.Value ≡ looked_at (part l o 16)
+          pub too_wide : ltb v (256 ^ w) ≡ false → ◌≡◌ {A = Record} (Err Flaw.Value) (looked_at (part l o 16))
           unfolding looked_at unless_unfit flaw_of
           too_wide e = rw (mark_here, ← mark, eq-eqb m 0x4A52 marked, kind-here, ← kind, a-kind, width-here, ← width, wide, value-here, ← value, e)
 
           pub no_flaw : ltb v (256 ^ w) ≡ true → {a : ℕ} → a ≡ number (part l (o + 4) 4)
-              → Record.Fit (record { read = eqb k 4; address = a; width = w; value = v }) ≡ looked_at (part l o 16)
+              → ◌≡◌ {A = Record} (Ok (record { read = eqb k 4; address = a; width = w; value = v })) (looked_at (part l o 16))
           unfolding looked_at unless_unfit flaw_of seen_in
           no_flaw e q = rw (mark_here, ← mark, eq-eqb m 0x4A52 marked, kind-here, ← kind, a-kind, width-here, ← width, wide, value-here, ← value, e, address_here, ← q)
 
@@ -356,42 +354,10 @@ a_kind_is n (inr e) = rw e
 pub no-kind_is : (n : ℕ) → (n ≡ 4 → ⊥) → (n ≡ 5 → ⊥) → false ≡ (eqb n 4 || eqb n 5)
 no-kind_is n a b = rw (ne_eqb n 4 a, ne_eqb n 5 b)
 
--- ---- whether an access is the one that is due
-
-module _ (x : Seen) (a n : ℕ) where
-  pub no_read : x.read ≡ false → false ≡ meets_due (Due.Read a n) x
-  unfolding meets_due
-  no_read e = rw e
-
-  pub read_elsewhere : x.read ≡ true → (a ≡ x.address → ⊥) → false ≡ meets_due (Due.Read a n) x
-  unfolding meets_due
-  read_elsewhere e h = rw (e, ne_eqb a x.address h)
-
-  pub read_there : x.read ≡ true → a ≡ x.address → eqb n x.width ≡ meets_due (Due.Read a n) x
-  unfolding meets_due
-  read_there e h = rw (e, eq-eqb a x.address h)
-
-  module _ (v : ℕ) where
-    pub no_write : x.read ≡ true → false ≡ meets_due (Due.Write a n v) x
-    unfolding meets_due
-    no_write e = rw e
-
-    pub write-elsewhere : x.read ≡ false → (a ≡ x.address → ⊥) → false ≡ meets_due (Due.Write a n v) x
-    unfolding meets_due
-    write-elsewhere e h = rw (e, ne_eqb a x.address h)
-
-    pub write_other : x.read ≡ false → a ≡ x.address → (n ≡ x.width → ⊥) → false ≡ meets_due (Due.Write a n v) x
-    unfolding meets_due
-    write_other e h l = rw (e, eq-eqb a x.address h, ne_eqb n x.width l)
-
-    pub write-there : x.read ≡ false → a ≡ x.address → n ≡ x.width → eqb v x.value ≡ meets_due (Due.Write a n v) x
-    unfolding meets_due
-    write-there e h l = rw (e, eq-eqb a x.address h, eq-eqb n x.width l)
-
 -- ---- the course
 
-module _ (p : Plan) (sources : List ℕ) (origin i : ℕ) (w : Walk) (x : Seen) {due : Due} (asked : due ≡ due_of sources origin p w) where
-  pub departed : meets_due due x ≡ false → Course.Departed i due ≡ walk_on p sources origin i w x
+module _ (p : Plan) (sources : List ℕ) (origin i : ℕ) (w : Walk) (x : Seen) {due : Option Due} (asked : due ≡ due_of sources origin p w) where
+  pub departed : meets_due due x ≡ false → departed_at i due ≡ walk_on p sources origin i w x
   unfolding walk_on
   departed e = rw (← asked, e)
 
