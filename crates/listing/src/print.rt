@@ -6,9 +6,6 @@ use std::io;
 use std::io::{Read, Write};
 use std::rt::Files;
 
-// No file has more bytes than 2^63, nor more records than this. It is what ends the loop for the proof: nothing says that a file ends.
-const RECORDS: u64 = 0x800000000000000;
-
 fn write_report<E: Write>(errors: &mut E, path: &[u8], at: u64, why: &str) -> io::Result<()>
     requires { at < 2 ^ 60 }
 {
@@ -36,25 +33,25 @@ fn print_piece<F: Read, O: Write, E: Write, N: Write>(
     requires { first < 2 ^ 59 }
 {
     let mut piece = [0u8; 1024];
-    let got = pieces::fill(file, notes, path, &mut piece);
-    let n = got.n;
+    let read = pieces::fill(file, notes, path, &mut piece);
+    let n = match read {
+        Ok(n) => n,
+        Err(failed) => failed.after,
+    };
     let whole = n / 16;
     let mut text = [0u8; 2112];
     let lines = list(&piece, whole, &mut text);
     let end = lines * 33;
-    match out.write_all(&text[..end]) {
-        Ok(()) => {}
-        Err(why) => {
-            pieces::fail(notes, b"write", why);
-            return false;
-        }
+    if let Err(why) = out.write_all(&text[..end]) {
+        pieces::fail(notes, b"write", why);
+        return false;
     }
     let next = first + lines as u64;
     if lines < whole {
         report(errors, path, next, "wrong mark, a record begins with 4a 52");
         return false;
     }
-    if got.failed {
+    if read.is_err() {
         report(errors, path, next, "cannot be read");
         return false;
     }
@@ -72,9 +69,10 @@ fn print_pieces<F: Read, O: Write, E: Write, N: Write>(
     errors: &mut E,
     notes: &mut N,
 ) {
-    let mut first: u64 = 0;
-    while first < RECORDS && print_piece(file, path, first, out, errors, notes) {
-        first += 64;
+    for first in (0..pieces::RECORDS).step_by(64) {
+        if !print_piece(file, path, first, out, errors, notes) {
+            return;
+        }
     }
 }
 
