@@ -5,11 +5,10 @@ use crate::course::{Records, Told};
 use crate::hex;
 use captures::{Departure, Due, Flaw, Malformed};
 use judge::Seen;
-use std::fmt;
 use std::fmt::{Display, Formatter, Radix, Style};
-use std::io;
 use std::io::{Read, Seek, Write};
 use std::rt::Files;
+use std::{fmt, io};
 
 // An access as the line tells it: of a read that is due, any value will do.
 #[derive(Clone, Copy)]
@@ -94,7 +93,11 @@ fn print_departure<F: Read + Seek, O: Write, E: Write>(
     first: Departure,
 ) -> io::Result<()> {
     let due = AtPlace(first.due.map(Access::from));
-    write!(out, "departs at access {}: the rules ask for {due}; the list has ", first.at)?;
+    write!(
+        out,
+        "departs at access {}: the rules ask for {due}; the list has ",
+        first.at
+    )?;
     let there = record_of(records, first.at % 0x800000000000000);
     writeln!(out, "{there}")
 }
@@ -104,6 +107,7 @@ fn print_allowed<O: Write>(out: &mut O, records: u64) -> io::Result<()> {
     writeln!(out, "allowed: {records} access{plural}")
 }
 
+// Stays a function: `Flaw` is of another crate, so that `Display` would need a type round it, and these words are this program's.
 fn told_of(why: Flaw) -> &'static str {
     match why {
         Flaw::Mark => "the mark is not 4a 52",
@@ -115,7 +119,12 @@ fn told_of(why: Flaw) -> &'static str {
 }
 
 fn print_flaw<O: Write>(out: &mut O, malformed: Malformed) -> io::Result<()> {
-    writeln!(out, "refused (22) at record {}: {}", malformed.place, told_of(malformed.why))
+    writeln!(
+        out,
+        "refused (22) at record {}: {}",
+        malformed.place,
+        told_of(malformed.why)
+    )
 }
 
 fn print_unusable<O: Write>(out: &mut O, why: &str) -> io::Result<()> {

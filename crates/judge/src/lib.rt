@@ -19,6 +19,9 @@ use rules::Tcd;
 
 // ---- what a descriptor asks for
 
+// `Narrow`, `Fitting`, `Within` and `Sane` stay clauses, and no ghost fields: the definitions of specs/Walks.antt build every side, plan and place, so that
+// each would carry a proof, and `next_unit` builds a place also where `Within` fails, of one with nothing left.
+
 // One side of a transfer, source or destination: its size in bytes, the bytes of a unit, how many more units a size has after its first, what an
 // address moves on by after each size, and with which modulo.
 #[derive(Clone, Copy)]
@@ -451,9 +454,7 @@ fn meets_due(due: Option<Due>, x: Seen) -> bool
 {
     match due {
         Some(Due::Read(a, n)) => x.read && a == x.address && n == x.width,
-        Some(Due::Write(a, n, v)) => {
-            !x.read && a == x.address && n == x.width && v == x.value
-        }
+        Some(Due::Write(a, n, v)) => { !x.read && a == x.address && n == x.width && v == x.value }
         None => false,
     }
 }
@@ -514,7 +515,7 @@ pub fn origin_of(p: Plan, c: Course) -> u64
     }
 }
 
-// After `count` records, of which the first has this number.
+// After `count` records, of which the first has this number. The count stays beside the records, as whoever calls has a buffer that is filled in part.
 pub fn on_all(
     p: Plan,
     sources: &[u8],
