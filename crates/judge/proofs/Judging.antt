@@ -9,7 +9,6 @@ use Rattle.rules.specs.Bytes.{Bytes, part}
 use Rattle.rules.specs.Minor.{tcd_of, ssize, dsize, source_offset, dest_offset, minor_bytes, offset, transfer, minor_end, pass}
 use Rattle.rules.specs.Words.{count_of}
 use Rattle.rules.proofs.BytesLaws.{part-first}
-use Rattle.captures.specs.declared.Due.{Due}
 use Rattle.captures.specs.declared.Flaw.{Flaw}
 use Rattle.captures.specs.declared.Departure.{Departure}
 use Rattle.captures.specs.declared.Malformed.{Malformed}

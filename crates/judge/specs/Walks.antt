@@ -8,7 +8,6 @@ use Rattle.rules.specs.Words.{has, size_of, unit_of, wholes, wrap32, signed, mod
 use Rattle.captures.specs.declared.Due.{Due}
 use Rattle.captures.specs.declared.Flaw.{Flaw}
 use Rattle.captures.specs.declared.Departure.{Departure}
-use Rattle.captures.specs.declared.Malformed.{Malformed}
 use Rattle.captures.specs.Capture.{Judged, allowed, departs, Captured, malformed, kind_in, width_of, address_of, value_of, flaw_of, record_at}
 use Rattle.judge.specs.declared.Side.{Side}
 use Rattle.judge.specs.declared.Plan.{Plan}

@@ -123,6 +123,7 @@ pub enum Walk {
 }
 
 // "Only the step by `soff` or `doff` after each whole size uses modulo."
+#[tactic(auto, unfolding(crate::specs::Walks::advanced))]
 fn advanced(side: Side, a: u32) -> u32
     requires { Narrow side }
     ensures { result ≡ advanced side a }
@@ -130,6 +131,7 @@ fn advanced(side: Side, a: u32) -> u32
     words::modulo_add(a, side.offset, side.modulo)
 }
 
+#[tactic(auto, unfolding(crate::specs::Walks::place_at))]
 fn place_at(side: Side, sizes: u32, from: u32, to: u32) -> Place
     requires { Narrow side }
     ensures { (result ≡ place_at side sizes from to) × Within result × (result.sizes ≡ sizes) }
@@ -143,6 +145,7 @@ fn place_at(side: Side, sizes: u32, from: u32, to: u32) -> Place
     }
 }
 
+#[tactic(auto, unfolding(crate::specs::Walks::next_unit))]
 fn next_unit(at: Place) -> Place
     requires { Within at × (0 < at.left) }
     ensures { (result ≡ next_unit at) × Within result × (result.sizes ≡ at.sizes) }
@@ -155,6 +158,7 @@ fn next_unit(at: Place) -> Place
 }
 
 // After the transfer.
+#[tactic(auto, unfolding(crate::specs::Walks::ending_of))]
 fn ending(p: Plan) -> Walk
     ensures { (result ≡ ending_of p) × Sane result }
 {
@@ -166,6 +170,7 @@ fn ending(p: Plan) -> Walk
 }
 
 // With so many whole sizes left: "read and write unit by unit".
+#[tactic(auto, unfolding(crate::specs::Walks::moves_from))]
 fn moves_from(p: Plan, sizes: u32, from: u32, to: u32) -> Walk
     requires { Fitting p }
     ensures { (result ≡ moves_from p sizes from to) × Sane result }
@@ -177,6 +182,7 @@ fn moves_from(p: Plan, sizes: u32, from: u32, to: u32) -> Walk
 }
 
 // "Then write only whole destination sizes."
+#[tactic(auto, unfolding(crate::specs::Walks::writes_from))]
 fn writes_from(p: Plan, sizes: u32, written: u32, read: u64, from: u32, to: u32) -> Walk
     requires { Fitting p × (written + sizes ≤ 2 ^ 32) }
     ensures { (result ≡ writes_from p sizes written read from to) × Sane result }
@@ -188,6 +194,7 @@ fn writes_from(p: Plan, sizes: u32, written: u32, read: u64, from: u32, to: u32)
 }
 
 // "Read all first."
+#[tactic(auto, unfolding(crate::specs::Walks::reads_from))]
 fn reads_from(p: Plan, sizes: u32, read: u64, from: u32, to: u32) -> Walk
     requires { Fitting p }
     ensures { (result ≡ reads_from p sizes read from to) × Sane result }
@@ -214,6 +221,7 @@ pub fn start(p: Plan, cr: u32, t: Tcd) -> Walk
 }
 
 // After a unit was moved, read, or written.
+#[tactic(auto, unfolding(crate::specs::Walks::move_on))]
 fn move_on(p: Plan, at: Place) -> Walk
     requires { Fitting p × Within at }
     ensures { (result ≡ move_on p at) × Sane result }
@@ -229,6 +237,7 @@ fn move_on(p: Plan, at: Place) -> Walk
     Walk::Move(next_unit(at))
 }
 
+#[tactic(auto, unfolding(crate::specs::Walks::read_on))]
 fn read_on(p: Plan, i: u64, at: Place) -> Walk
     requires { Fitting p × Within at × (i < 2 ^ 63) }
     ensures { (result ≡ read_on p i at) × Sane result }
@@ -239,6 +248,7 @@ fn read_on(p: Plan, i: u64, at: Place) -> Walk
     Walk::Read(next_unit(at))
 }
 
+#[tactic(auto, unfolding(crate::specs::Walks::write_on, crate::specs::Walks::writes_from))]
 fn write_on(p: Plan, at: Place, written: u32, read: u64) -> Walk
     requires { Fitting p × Within at × (written + at.sizes < 2 ^ 32) }
     ensures { (result ≡ write_on p at written read) × Sane result }
@@ -254,6 +264,7 @@ fn write_on(p: Plan, at: Place, written: u32, read: u64) -> Walk
 }
 
 // After a byte was fetched.
+#[tactic(auto, unfolding(crate::specs::Walks::fetch_on))]
 fn fetch_on(left: u32, a: u64) -> Walk
     requires { a + left < 2 ^ 33 }
     ensures { (result ≡ fetch_on left a) × Sane result }
@@ -265,6 +276,7 @@ fn fetch_on(left: u32, a: u64) -> Walk
 }
 
 // Where a walk stands after access number `i`, which had value `v`.
+#[tactic(auto, unfolding(crate::specs::Walks::onward_of))]
 fn onward(p: Plan, i: u64, w: Walk, v: u32) -> Walk
     requires { Fitting p × Sane w × (i < 2 ^ 63) }
     ensures { (result ≡ onward_of p i w v) × Sane result }
