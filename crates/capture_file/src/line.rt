@@ -10,6 +10,13 @@ use std::io::{Read, Seek, Write};
 use std::rt::Files;
 use std::{fmt, io};
 
+// What a list is judged by: the channel's descriptor, and CR.
+#[derive(Clone, Copy)]
+struct Channel {
+    descriptor: [u8; 32],
+    cr: u32,
+}
+
 // An access as the line tells it: of a read that is due, any value will do.
 #[derive(Clone, Copy)]
 struct Access {
@@ -146,10 +153,9 @@ fn print_told<F: Read + Seek, O: Write, E: Write>(
 fn print_opened<F: Read + Seek, O: Write, E: Write>(
     out: &mut O,
     mut records: Records<'_, F, E>,
-    descriptor: &[u8; 32],
-    cr: u32,
+    channel: &Channel,
 ) -> io::Result<()> {
-    match records.judge(descriptor, cr) {
+    match records.judge(&channel.descriptor, channel.cr) {
         Ok(told) => print_told(out, &mut records, told),
         Err(_) => print_unusable(out, "the file cannot be read"),
     }
@@ -160,8 +166,7 @@ fn print_file<R: Files, O: Write, E: Write>(
     out: &mut O,
     notes: &mut E,
     path: &[u8],
-    descriptor: &[u8; 32],
-    cr: u32,
+    channel: &Channel,
 ) -> io::Result<()> {
     match pieces::open(files, path) {
         Ok(mut file) => {
@@ -170,7 +175,7 @@ fn print_file<R: Files, O: Write, E: Write>(
                 path,
                 notes,
             };
-            print_opened(out, records, descriptor, cr)
+            print_opened(out, records, channel)
         }
         Err(why) => {
             pieces::fail(notes, path, why);
@@ -195,6 +200,14 @@ fn cr_of(text: &[u8]) -> Option<u32> {
     }
 }
 
+// Both, or why they cannot be used.
+fn channel_of(descriptor: &[u8], cr: &[u8]) -> Result<Channel, &'static str> {
+    Ok(Channel {
+        descriptor: descriptor_of(descriptor).ok_or("the descriptor is not 64 hex digits")?,
+        cr: cr_of(cr).ok_or("CR is not 1 to 8 hex digits")?,
+    })
+}
+
 fn print_capture<R: Files, O: Write, E: Write>(
     files: &R,
     descriptor: &[u8],
@@ -203,13 +216,10 @@ fn print_capture<R: Files, O: Write, E: Write>(
     out: &mut O,
     notes: &mut E,
 ) -> io::Result<()> {
-    let Some(descriptor) = descriptor_of(descriptor) else {
-        return print_unusable(out, "the descriptor is not 64 hex digits");
-    };
-    let Some(cr) = cr_of(cr) else {
-        return print_unusable(out, "CR is not 1 to 8 hex digits");
-    };
-    print_file(files, out, notes, path, &descriptor, cr)
+    match channel_of(descriptor, cr) {
+        Ok(channel) => print_file(files, out, notes, path, &channel),
+        Err(why) => print_unusable(out, why),
+    }
 }
 
 // Judges the file of this name, by a descriptor of 64 digits and a CR of up to 8, and prints the line on `out`. Why the system refused goes to
