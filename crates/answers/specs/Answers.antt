@@ -1,10 +1,9 @@
 -- The answer of an entry in one number (docs/ABI.md), and all that is there after an entry, however it holds a device. Assumes nothing.
-use Rattle.std.specs.Prelude.{cond, List, ℕ, ◌+◌, ◌*◌, ◌/◌, ◌%◌, ◌^◌, eqb, Some, None}
+use Rattle.std.specs.Prelude.{Some, None, Ok, Err, cond, List, ℕ, ◌+◌, ◌*◌, ◌/◌, ◌%◌, ◌^◌, eqb}
 use Rattle.rules.specs.Verdicts.{Heard}
 use Rattle.rules.specs.Calls.{heard_level, heard_vector, Told, told, ToldRead, told_read}
 use Rattle.rules.specs.State.{Device}
-use Rattle.captures.specs.declared.Judged.{Judged}
-use Rattle.captures.specs.declared.Captured.{Captured}
+use Rattle.captures.specs.Capture.{Judged, Captured}
 
 -- bits 63..56 status, 47..40 level, 39..32 vector, 31..0 the low bits of a number
 unfoldable pub packed : ℕ → ℕ → ℕ → ℕ → ℕ
@@ -33,12 +32,12 @@ read_by (told_read n v) = packed n 0 0 v
 
 -- a capture: whether it departs in the vector's place, and at which access; 22 and at which record
 unfoldable pub judged_by : Judged → ℕ
-judged_by Judged.Allowed = packed 0 0 0 0
-judged_by (Judged.Departs at due) = packed 0 0 1 at
+judged_by None = packed 0 0 0 0
+judged_by (Some x) = packed 0 0 1 x.at
 
 unfoldable pub captured_by : Captured → ℕ
-captured_by (Captured.Refused at why) = packed 22 0 0 at
-captured_by (Captured.Found j) = judged_by j
+captured_by (Err x) = packed 22 0 0 x.place
+captured_by (Ok j) = judged_by j
 
 -- an entry's answer, the device as the entry holds it, window, staging, journal
 pub data Left (D : Type 0) : Type 0 where

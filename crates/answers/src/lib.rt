@@ -98,8 +98,8 @@ fn judged_answer(j: Judged) -> u64
     ensures { result ≡ judged_by j }
 {
     match j {
-        Judged::Allowed => packed(0, 0, 0, 0),
-        Judged::Departs(at, _) => packed(0, 0, 1, at),
+        None => packed(0, 0, 0, 0),
+        Some(departure) => packed(0, 0, 1, departure.at),
     }
 }
 
@@ -107,7 +107,7 @@ pub fn captured_answer(c: Captured) -> u64
     ensures { result ≡ captured_by c }
 {
     match c {
-        Captured::Refused(at, _) => packed(22, 0, 0, at),
-        Captured::Found(j) => judged_answer(j),
+        Ok(j) => judged_answer(j),
+        Err(malformed) => packed(22, 0, 0, malformed.place),
     }
 }

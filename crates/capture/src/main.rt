@@ -2,8 +2,6 @@
 // has all of them. Why a file could not be opened or read goes to standard error.
 #![tactic(auto)]
 
-ghost use Rattle.std.specs.Prelude.{◌≤◌, length};
-
 use std::env::FillError;
 use std::rt::Env;
 
@@ -16,13 +14,11 @@ fn is_given(rt: &HostRuntime, i: usize) -> bool {
     }
 }
 
-// An argument's bytes at the start of `text`, and how many there are: none of one that is too long.
-fn argument(rt: &HostRuntime, i: usize, text: &mut [u8]) -> usize
-    ensures { result ≤ length text.old }
-{
+// An argument's bytes: none of one that is too long.
+fn argument<'a>(rt: &HostRuntime, i: usize, text: &'a mut [u8]) -> &'a [u8] {
     match rt.arg(i, text) {
-        Ok(n) => n,
-        Err(_) => 0,
+        Ok(n) => &text[..n],
+        Err(_) => &[],
     }
 }
 
@@ -34,14 +30,11 @@ fn main(rt: HostRuntime) {
     let mut descriptor = [0u8; 4096];
     let mut cr = [0u8; 4096];
     let mut path = [0u8; 4096];
-    let n = argument(&rt, 1, &mut descriptor);
-    let m = argument(&rt, 2, &mut cr);
-    let k = argument(&rt, 3, &mut path);
     capture_file::judge_capture(
         &rt,
-        &descriptor[..n],
-        &cr[..m],
-        &path[..k],
+        argument(&rt, 1, &mut descriptor),
+        argument(&rt, 2, &mut cr),
+        argument(&rt, 3, &mut path),
         &mut rt.stdout(),
         &mut rt.stderr(),
     );

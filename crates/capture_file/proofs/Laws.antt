@@ -1,62 +1,70 @@
 -- Hexadecimal digits, by cases and turn by turn. Assumes nothing.
-use mathlib.Core.Bool.{Bool, true, false, ◌&&◌}
+use mathlib.Core.Bool.{Bool, true, false, cond, ◌&&◌, false≢true}
 use mathlib.Core.List.{List}
-use mathlib.Core.Path.{◌≡◌, refl, sym, ◌∙◌}
+use mathlib.Core.Path.{◌≡◌, refl, sym, ap, ◌∙◌}
 use Prim.Native.Nat.{ℕ, suc, ◌+◌, ◌-◌, ◌*◌, ◌%◌, ◌^◌, ◌≤◌, ◌<◌}
 use native.Mathlib.Omega.{arith}
-use borrow.Author.Tests.{le-leb, lt-leb, leb-true, lt-ltb, le-ltb, eqb-true, eqb-false}
+use borrow.Author.Tests.{leb-true, lt-ltb, le-ltb, eqb-true, eqb-false}
 use lib.Dec.{eqb, leb}
 use lib.ListN.{get_or, set, length}
 use lib.Seq.{get_or-set_same, get_or-set_other}
-use Rattle.rules.proofs.BoolLaws.{and_left, and_right}
-use Rattle.capture_file.specs.Hex.{nibble_of, digits_from, spelled_from, byte_of}
+use Rattle.std.proofs.Common.{Option, None, Some, is_some}
+use Rattle.std.specs.Prelude.{unwrap_or}
+use Rattle.rules.proofs.BoolLaws.{and_right}
+use Rattle.capture_file.specs.Hex.{nibble_of, digit_in, digits_from, spelled_from, byte_of}
 
-pub below : (b low high : ℕ) → b < low → false ≡ leb low b && leb b high
-below b low high h = rw (lt-leb low b h)
+-- a digit's number
 
-pub from_low : (b low high : ℕ) → low ≤ b → leb b high ≡ leb low b && leb b high
-from_low b low high h = rw (le-leb low b h)
+pub nibble_most : (b : ℕ) → nibble_of b ≤ 16
+unfolding nibble_of
+nibble_most b = by (leb 48 b && leb b 57) (leb 97 b && leb b 102) (leb 65 b && leb b 70) refl refl refl
+  where
+    by : (s t u : Bool) → (leb 48 b && leb b 57) ≡ s → (leb 97 b && leb b 102) ≡ t → (leb 65 b && leb b 70) ≡ u → cond s (b - 48) (cond t (b - 87) (cond u (b - 55) 16)) ≤ 16
+    by true t u e f g = omega (arith, leb-true b 57 (and_right (leb 48 b) (leb b 57) e))
+    by false true u e f g = omega (arith, leb-true b 102 (and_right (leb 97 b) (leb b 102) f))
+    by false false true e f g = omega (arith, leb-true b 70 (and_right (leb 65 b) (leb b 70) g))
+    by false false false e f g = omega arith
 
-module _ (b low high : ℕ) {t : Bool} (told : t ≡ leb low b && leb b high) (e : t ≡ true) where
-  pub at_least : low ≤ b
-  at_least = leb-true low b (and_left (leb low b) (leb b high) (sym told ∙ e))
+module _ (b : ℕ) {o : Option ℕ} (e : o ≡ digit_in b) where
+  pub not_none : is_some o ≡ true → nibble_of b < 16
+  unfolding digit_in
+  not_none h = by (eqb (nibble_of b) 16) refl (sym (ap (λ (x : Option ℕ). is_some x) e) ∙ h)
+    where
+      by : (t : Bool) → eqb (nibble_of b) 16 ≡ t → ◌≡◌ {A = Bool} (is_some (cond t None (Some (nibble_of b)))) true → nibble_of b < 16
+      by true q k = absurd (false≢true k)
+      by false q k = omega (arith, eqb-false (nibble_of b) 16 q, nibble_most b)
 
-  pub at_most : b ≤ high
-  at_most = leb-true b high (and_right (leb low b) (leb b high) (sym told ∙ e))
+  pub is_nothing : is_some o ≡ false → 16 ≤ nibble_of b
+  unfolding digit_in
+  is_nothing h = by (eqb (nibble_of b) 16) refl (sym (ap (λ (x : Option ℕ). is_some x) e) ∙ h)
+    where
+      by : (t : Bool) → eqb (nibble_of b) 16 ≡ t → ◌≡◌ {A = Bool} (is_some (cond t None (Some (nibble_of b)))) false → 16 ≤ nibble_of b
+      by true q k = omega (arith, eqb-true (nibble_of b) 16 q)
+      by false q k = absurd (false≢true (sym k))
 
-module _ (b : ℕ) {t : Bool} (told : t ≡ leb 48 b && leb b 57) where
-  pub a_figure : t ≡ true → b - 48 ≡ nibble_of b
-  unfolding nibble_of
-  a_figure e = rw (sym told ∙ e)
-
-  module _ (no : t ≡ false) {u : Bool} (told-low : u ≡ leb 97 b && leb b 102) where
-    pub low_case : u ≡ true → b - 87 ≡ nibble_of b
-    unfolding nibble_of
-    low_case e = rw (sym told ∙ no, sym told-low ∙ e)
-
-    module _ (not_low : u ≡ false) {v : Bool} (told-high : v ≡ leb 65 b && leb b 70) where
-      pub high_case : v ≡ true → b - 55 ≡ nibble_of b
-      unfolding nibble_of
-      high_case e = rw (sym told ∙ no, sym told-low ∙ not_low, sym told-high ∙ e)
-
-      pub no_digit : v ≡ false → 16 ≡ nibble_of b
-      unfolding nibble_of
-      no_digit e = rw (sym told ∙ no, sym told-low ∙ not_low, sym told-high ∙ e)
+  -- 16 is 0, modulo 16
+  pub digit_or : unwrap_or o 0 ≡ nibble_of b % 16
+  unfolding digit_in
+  digit_or = ap (λ (x : Option ℕ). unwrap_or x 0) e ∙ by (eqb (nibble_of b) 16) refl
+    where
+      by : (t : Bool) → eqb (nibble_of b) 16 ≡ t → ◌≡◌ {A = ℕ} (unwrap_or (cond t None (Some (nibble_of b))) 0) (nibble_of b % 16)
+      by true q = omega (arith, eqb-true (nibble_of b) 16 q)
+      by false q = let few : nibble_of b < 16 = omega (arith, eqb-false (nibble_of b) 16 q, nibble_most b) in omega (arith, few)
 
 -- ---- digits alone
 
 module _ (text : List ℕ) (k n : ℕ) where
-  pub digit_on : k < n → {d : ℕ} → d ≡ nibble_of (get_or text k 0) → d < 16 → digits_from text (k + 1) (n - (k + 1)) ≡ digits_from text k (n - k)
+  pub digit_on : k < n → nibble_of (get_or text k 0) < 16 → digits_from text (k + 1) (n - (k + 1)) ≡ digits_from text k (n - k)
   unfolding digits_from
-  digit_on h e l =
+  digit_on h l =
       let left : n - k ≡ suc (n - (k + 1)) = omega arith in
-      rw (left, ← e, lt-ltb _ 16 l)
+      rw (left, lt-ltb _ 16 l)
 
-  pub digit_off : k < n → {d : ℕ} → d ≡ nibble_of (get_or text k 0) → 16 ≤ d → digits_from text k (n - k) ≡ false
+  pub digit_off : k < n → 16 ≤ nibble_of (get_or text k 0) → digits_from text k (n - k) ≡ false
   unfolding digits_from
-  digit_off h e l =
+  digit_off h l =
       let left : n - k ≡ suc (n - (k + 1)) = omega arith in
-      rw (left, ← e, le-ltb _ 16 l)
+      rw (left, le-ltb _ 16 l)
 
   pub digits_end : n ≤ k → digits_from text k (n - k) ≡ true
   unfolding digits_from
@@ -65,7 +73,7 @@ module _ (text : List ℕ) (k n : ℕ) where
       rw left
 
   -- what they spell
-  pub spelled_on : (v : ℕ) → k < n → {d : ℕ} → d ≡ nibble_of (get_or text k 0) → spelled_from text (v % 2 ^ 28 * 16 + d % 16) (k + 1) (n - (k + 1)) ≡ spelled_from text v k (n - k)
+  pub spelled_on : (v : ℕ) → k < n → {d : ℕ} → d ≡ nibble_of (get_or text k 0) % 16 → spelled_from text (v % 2 ^ 28 * 16 + d) (k + 1) (n - (k + 1)) ≡ spelled_from text v k (n - k)
   unfolding spelled_from
   spelled_on v h e =
       let left : n - k ≡ suc (n - (k + 1)) = omega arith in
@@ -78,10 +86,6 @@ module _ (text : List ℕ) (k n : ℕ) where
       rw left
 
 -- ---- bytes
-
-pub two_digits : (text : List ℕ) (k : ℕ) {a b : ℕ} → a ≡ nibble_of (get_or text (2 * k) 0) → b ≡ nibble_of (get_or text (2 * k + 1) 0) → a % 16 * 16 + b % 16 ≡ byte_of text k
-unfolding byte_of
-two_digits text k e f = rw (e, f)
 
 pub filled_on : (out text : List ℕ) (k b : ℕ) → k < length out → ((j : ℕ) → j < k → get_or out j 0 ≡ byte_of text j) → b ≡ byte_of text k
     → (j : ℕ) → j < k + 1 → get_or (set out k b) j 0 ≡ byte_of text j

@@ -1,5 +1,5 @@
 -- Hexadecimal digits, in either case, as numbers and bytes. Assumes nothing.
-use Rattle.std.specs.Prelude.{Bool, true, cond, ◌&&◌, List, ℕ, zero, suc, ◌+◌, ◌-◌, ◌*◌, ◌%◌, ◌^◌, ltb, leb, get_or}
+use Rattle.std.specs.Prelude.{Option, None, Some, Bool, true, cond, ◌&&◌, List, ℕ, zero, suc, ◌+◌, ◌-◌, ◌*◌, ◌%◌, ◌^◌, eqb, ltb, leb, get_or}
 
 -- a digit's number; 16 where it is none
 unfoldable pub nibble_of : ℕ → ℕ
@@ -7,6 +7,10 @@ nibble_of b =
     cond (leb 48 b && leb b 57) (b - 48)
     (cond (leb 97 b && leb b 102) (b - 87)
     (cond (leb 65 b && leb b 70) (b - 55) 16))
+
+-- the same, or nothing
+unfoldable pub digit_in : ℕ → Option ℕ
+digit_in b = cond (eqb (nibble_of b) 16) None (Some (nibble_of b))
 
 module _ (text : List ℕ) where
   -- whether n characters from k on are digits

@@ -1,44 +1,37 @@
 // Hexadecimal digits, in either case.
-ghost use Rattle.std.specs.Prelude.{◌&&◌, ◌≡◌, ◌≤◌, ◌<◌, ℕ, nat_le, length, slice_index};
-ghost use Rattle.capture_file.specs.Hex.{nibble_of, digits_from, spelled_from, byte_of};
+ghost use Rattle.std.specs.Prelude.{◌≡◌, ◌%◌, ◌<◌, ℕ, length, slice_index};
+ghost use Rattle.capture_file.specs.Hex.{nibble_of, digit_in, digits_from, spelled_from, byte_of};
 
-fn within(b: u8, low: u8, high: u8) -> bool
-    ensures { result ≡ nat_le low b && nat_le b high }
+// A digit's number.
+#[tactic(auto, unfolding(crate::specs::Hex::nibble_of, crate::specs::Hex::digit_in))]
+fn nibble(b: u8) -> Option<u8>
+    ensures { result ≡ digit_in b }
 {
-    if b < low {
-        return false;
+    match b {
+        b'0'..=b'9' => Some(b - b'0'),
+        b'a'..=b'f' => Some(b - b'a' + 10),
+        b'A'..=b'F' => Some(b - b'A' + 10),
+        _ => None,
     }
-    b <= high
-}
-
-// A digit's number, or 16.
-fn nibble(b: u8) -> u8
-    ensures { (result ≡ nibble_of b) × (result ≤ 16) }
-{
-    if within(b, b'0', b'9') {
-        return b - 48;
-    }
-    if within(b, b'a', b'f') {
-        return b - 87;
-    }
-    if within(b, b'A', b'F') {
-        return b - 55;
-    }
-    16
 }
 
 // Whether a text is digits alone.
 pub fn is_hex(text: &[u8]) -> bool
     ensures { result ≡ digits_from text.now 0 (length text.now) }
 {
-    let mut k = 0;
-    while k < text.len() {
-        if nibble(text[k]) == 16 {
+    for k in 0..text.len() {
+        if nibble(text[k]).is_none() {
             return false;
         }
-        k += 1;
     }
     true
+}
+
+// A digit's number, 0 of any other character.
+fn digit(b: u8) -> u8
+    ensures { (result ≡ nibble_of b % 16) × (result < 16) }
+{
+    nibble(b).unwrap_or(0)
 }
 
 // What they spell.
@@ -46,29 +39,28 @@ pub fn number(text: &[u8]) -> u32
     ensures { result ≡ spelled_from text.now 0 0 (length text.now) }
 {
     let mut v: u32 = 0;
-    let mut k = 0;
-    while k < text.len() {
-        v = v % 0x10000000 * 16 + (nibble(text[k]) % 16) as u32;
-        k += 1;
+    for k in 0..text.len() {
+        v = v % 0x10000000 * 16 + digit(text[k]) as u32;
     }
     v
 }
 
 // Byte `k` of two digits each, and all 32 of a descriptor.
+#[tactic(auto, unfolding(crate::specs::Hex::byte_of))]
 fn byte(text: &[u8], k: usize) -> u8
     requires { (length text.now ≡ 64) × (k < 32) }
     ensures { result ≡ byte_of text.now k }
 {
-    nibble(text[2 * k]) % 16 * 16 + nibble(text[2 * k + 1]) % 16
+    digit(text[2 * k]) * 16 + digit(text[2 * k + 1])
 }
 
-pub fn descriptor(text: &[u8], out: &mut [u8])
-    requires { (length text.now ≡ 64) × (length out.old ≡ 32) }
-    ensures { (k : ℕ) → k < 32 → slice_index out.new k ≡ byte_of text.now k }
+pub fn descriptor(text: &[u8]) -> [u8; 32]
+    requires { length text.now ≡ 64 }
+    ensures { (k : ℕ) → k < 32 → slice_index result k ≡ byte_of text.now k }
 {
-    let mut k = 0;
-    while k < 32 {
+    let mut out = [0u8; 32];
+    for k in 0..32 {
         out[k] = byte(text, k);
-        k += 1;
     }
+    out
 }

@@ -1,104 +1,120 @@
 // The one line: what a file came to, with a first word that a script can test.
-ghost use Rattle.std.specs.Prelude.{true, ◌≡◌, ◌<◌, ◌^◌, length};
+ghost use Rattle.std.specs.Prelude.{◌<◌, ◌^◌};
 
-use crate::course::Outcome;
-use crate::{course, hex};
-use captures::{Captured, Due, Flaw, Judged};
-use judge::{Record, Seen};
-use std::fmt::{Radix, Style};
-use std::io;
+use crate::course::{Records, Told};
+use crate::hex;
+use captures::{Departure, Due, Flaw, Malformed};
+use judge::Seen;
+use std::fmt::{Display, Formatter, Radix, Style};
 use std::io::{Read, Seek, Write};
 use std::rt::Files;
+use std::{fmt, io};
 
-fn print_kind<O: Write>(out: &mut O, read: bool, width: u32) -> io::Result<()> {
-    let kind = if read { "read" } else { "write" };
-    if width == 1 {
-        write!(out, "a {kind} of {width} byte")
-    } else {
-        write!(out, "a {kind} of {width} bytes")
+// What a list is judged by: the channel's descriptor, and CR.
+#[derive(Clone, Copy)]
+struct Channel {
+    descriptor: [u8; 32],
+    cr: u32,
+}
+
+// An access as the line tells it: of a read that is due, any value will do.
+#[derive(Clone, Copy)]
+struct Access {
+    is_read: bool,
+    width: u32,
+    value: Option<u32>,
+    address: u32,
+}
+
+impl From<Due> for Access {
+    fn from(due: Due) -> Self {
+        match due {
+            Due::Read(address, width) => Access {
+                is_read: true,
+                width,
+                value: None,
+                address,
+            },
+            Due::Write(address, width, value) => Access {
+                is_read: false,
+                width,
+                value: Some(value),
+                address,
+            },
+        }
     }
 }
 
-// The value, with two digits for each byte of its width.
-fn print_value<O: Write>(out: &mut O, width: u32, value: u32) -> io::Result<()> {
-    let digits = width as usize % 16 * 2;
-    write!(out, ", {}", value.hex().zero().width(digits.min(16)))
-}
-
-fn print_address<O: Write>(out: &mut O, address: u32) -> io::Result<()> {
-    write!(out, " at {address:08x}")
-}
-
-fn print_no_more<O: Write>(out: &mut O) -> io::Result<()> {
-    write!(out, "no more accesses")
-}
-
-// What the rules ask for.
-fn print_due<O: Write>(out: &mut O, due: Due) -> io::Result<()> {
-    match due {
-        Due::Read(address, width) => {
-            print_kind(out, true, width)?;
-            print_address(out, address)
+impl From<Seen> for Access {
+    fn from(x: Seen) -> Self {
+        Access {
+            is_read: x.read,
+            width: x.width,
+            value: Some(x.value),
+            address: x.address,
         }
-        Due::Write(address, width, value) => {
-            print_kind(out, false, width)?;
-            print_value(out, width, value)?;
-            print_address(out, address)
-        }
-        Due::Nothing => print_no_more(out),
     }
 }
 
-fn print_seen<O: Write>(out: &mut O, x: Seen) -> io::Result<()> {
-    print_kind(out, x.read, x.width)?;
-    print_value(out, x.width, x.value)?;
-    print_address(out, x.address)
+impl Display for Access {
+    fn fmt<W: fmt::Write>(&self, f: &mut Formatter<W>) -> fmt::Result {
+        let kind = if self.is_read { "read" } else { "write" };
+        let plural = if self.width == 1 { "" } else { "s" };
+        write!(f, "a {kind} of {} byte{plural}", self.width)?;
+        if let Some(value) = self.value {
+            // two digits for each byte of the width
+            let digits = self.width as usize % 16 * 2;
+            write!(f, ", {}", value.hex().zero().width(digits.min(16)))?;
+        }
+        write!(f, " at {:08x}", self.address)
+    }
+}
+
+// What the rules ask for, or the list has, at a place.
+#[derive(Clone, Copy)]
+struct AtPlace(Option<Access>);
+
+impl Display for AtPlace {
+    fn fmt<W: fmt::Write>(&self, f: &mut Formatter<W>) -> fmt::Result {
+        match &self.0 {
+            Some(access) => access.fmt(f),
+            None => f.write_str("no more accesses"),
+        }
+    }
 }
 
 // What the list has there.
-fn print_record<F: Read + Seek, O: Write, E: Write>(
-    out: &mut O,
-    file: &mut F,
-    notes: &mut E,
-    path: &[u8],
-    number: u64,
-) -> io::Result<()>
+fn record_of<F: Read + Seek, E: Write>(records: &mut Records<'_, F, E>, number: u64) -> AtPlace
     requires { number < 2 ^ 59 }
 {
     let mut record = [0u8; 16];
-    let got = pieces::fill_from(file, notes, path, (number * 16) as i64, &mut record);
-    if got.n < 16 {
-        return print_no_more(out);
+    if !matches!(records.fill_from(number, &mut record), Ok(16)) {
+        return AtPlace(None);
     }
-    match judge::record_at(&record, 0) {
-        Record::Fit(x) => print_seen(out, x),
-        Record::Unfit(_) => print_no_more(out),
-    }
+    AtPlace(judge::record_at(&record, 0).ok().map(Access::from))
 }
 
 fn print_departure<F: Read + Seek, O: Write, E: Write>(
     out: &mut O,
-    file: &mut F,
-    notes: &mut E,
-    path: &[u8],
-    number: u64,
-    due: Due,
+    records: &mut Records<'_, F, E>,
+    first: Departure,
 ) -> io::Result<()> {
-    write!(out, "departs at access {number}: the rules ask for ")?;
-    print_due(out, due)?;
-    write!(out, "; the list has ")?;
-    print_record(out, file, notes, path, number % 0x800000000000000)?;
-    writeln!(out, "")
+    let due = AtPlace(first.due.map(Access::from));
+    write!(
+        out,
+        "departs at access {}: the rules ask for {due}; the list has ",
+        first.at
+    )?;
+    let there = record_of(records, first.at % 0x800000000000000);
+    writeln!(out, "{there}")
 }
 
-fn print_allowed<O: Write>(out: &mut O, number: u64) -> io::Result<()> {
-    if number == 1 {
-        writeln!(out, "allowed: {number} access")
-    } else {
-        writeln!(out, "allowed: {number} accesses")
-    }
+fn print_allowed<O: Write>(out: &mut O, records: u64) -> io::Result<()> {
+    let plural = if records == 1 { "" } else { "es" };
+    writeln!(out, "allowed: {records} access{plural}")
 }
 
+// Stays a function: `Flaw` is of another crate, so that `Display` would need a type round it, and these words are this program's.
 fn told_of(why: Flaw) -> &'static str {
     match why {
         Flaw::Mark => "the mark is not 4a 52",
@@ -109,53 +125,39 @@ fn told_of(why: Flaw) -> &'static str {
     }
 }
 
-fn print_flaw<O: Write>(out: &mut O, number: u64, why: Flaw) -> io::Result<()> {
-    writeln!(out, "refused (22) at record {number}: {}", told_of(why))
+fn print_flaw<O: Write>(out: &mut O, malformed: Malformed) -> io::Result<()> {
+    writeln!(
+        out,
+        "refused (22) at record {}: {}",
+        malformed.place,
+        told_of(malformed.why)
+    )
 }
 
 fn print_unusable<O: Write>(out: &mut O, why: &str) -> io::Result<()> {
     writeln!(out, "unusable: {why}")
 }
 
-fn print_judged<F: Read + Seek, O: Write, E: Write>(
+fn print_told<F: Read + Seek, O: Write, E: Write>(
     out: &mut O,
-    file: &mut F,
-    notes: &mut E,
-    path: &[u8],
-    number: u64,
-    j: Judged,
+    records: &mut Records<'_, F, E>,
+    told: Told,
 ) -> io::Result<()> {
-    match j {
-        Judged::Allowed => print_allowed(out, number),
-        Judged::Departs(at, due) => print_departure(out, file, notes, path, at, due),
-    }
-}
-
-fn print_captured<F: Read + Seek, O: Write, E: Write>(
-    out: &mut O,
-    file: &mut F,
-    notes: &mut E,
-    path: &[u8],
-    number: u64,
-    c: Captured,
-) -> io::Result<()> {
-    match c {
-        Captured::Refused(at, why) => print_flaw(out, at, why),
-        Captured::Found(j) => print_judged(out, file, notes, path, number, j),
+    match told.captured {
+        Ok(None) => print_allowed(out, told.records),
+        Ok(Some(first)) => print_departure(out, records, first),
+        Err(malformed) => print_flaw(out, malformed),
     }
 }
 
 fn print_opened<F: Read + Seek, O: Write, E: Write>(
     out: &mut O,
-    file: &mut F,
-    notes: &mut E,
-    path: &[u8],
-    descriptor: &[u8; 32],
-    cr: u32,
+    mut records: Records<'_, F, E>,
+    channel: &Channel,
 ) -> io::Result<()> {
-    match course::judge_file(file, notes, path, descriptor, cr) {
-        Outcome::Judged(number, c) => print_captured(out, file, notes, path, number, c),
-        Outcome::Unread => print_unusable(out, "the file cannot be read"),
+    match records.judge(&channel.descriptor, channel.cr) {
+        Ok(told) => print_told(out, &mut records, told),
+        Err(_) => print_unusable(out, "the file cannot be read"),
     }
 }
 
@@ -164,11 +166,17 @@ fn print_file<R: Files, O: Write, E: Write>(
     out: &mut O,
     notes: &mut E,
     path: &[u8],
-    descriptor: &[u8; 32],
-    cr: u32,
+    channel: &Channel,
 ) -> io::Result<()> {
     match pieces::open(files, path) {
-        Ok(mut file) => print_opened(out, &mut file, notes, path, descriptor, cr),
+        Ok(mut file) => {
+            let records = Records {
+                file: &mut file,
+                path,
+                notes,
+            };
+            print_opened(out, records, channel)
+        }
         Err(why) => {
             pieces::fail(notes, path, why);
             print_unusable(out, "the file cannot be opened")
@@ -176,23 +184,28 @@ fn print_file<R: Files, O: Write, E: Write>(
     }
 }
 
-fn is_descriptor(text: &[u8]) -> bool
-    ensures { result ≡ true → length text.now ≡ 64 }
-{
-    if text.len() != 64 {
-        return false;
+fn descriptor_of(text: &[u8]) -> Option<[u8; 32]> {
+    if text.len() == 64 && hex::is_hex(text) {
+        Some(hex::descriptor(text))
+    } else {
+        None
     }
-    hex::is_hex(text)
 }
 
-fn is_cr(text: &[u8]) -> bool {
-    if text.len() == 0 {
-        return false;
+fn cr_of(text: &[u8]) -> Option<u32> {
+    if !text.is_empty() && text.len() <= 8 && hex::is_hex(text) {
+        Some(hex::number(text))
+    } else {
+        None
     }
-    if 8 < text.len() {
-        return false;
-    }
-    hex::is_hex(text)
+}
+
+// Both, or why they cannot be used.
+fn channel_of(descriptor: &[u8], cr: &[u8]) -> Result<Channel, &'static str> {
+    Ok(Channel {
+        descriptor: descriptor_of(descriptor).ok_or("the descriptor is not 64 hex digits")?,
+        cr: cr_of(cr).ok_or("CR is not 1 to 8 hex digits")?,
+    })
 }
 
 fn print_capture<R: Files, O: Write, E: Write>(
@@ -203,15 +216,10 @@ fn print_capture<R: Files, O: Write, E: Write>(
     out: &mut O,
     notes: &mut E,
 ) -> io::Result<()> {
-    if !is_descriptor(descriptor) {
-        return print_unusable(out, "the descriptor is not 64 hex digits");
+    match channel_of(descriptor, cr) {
+        Ok(channel) => print_file(files, out, notes, path, &channel),
+        Err(why) => print_unusable(out, why),
     }
-    if !is_cr(cr) {
-        return print_unusable(out, "CR is not 1 to 8 hex digits");
-    }
-    let mut bytes = [0u8; 32];
-    hex::descriptor(descriptor, &mut bytes);
-    print_file(files, out, notes, path, &bytes, hex::number(cr))
 }
 
 // Judges the file of this name, by a descriptor of 64 digits and a CR of up to 8, and prints the line on `out`. Why the system refused goes to

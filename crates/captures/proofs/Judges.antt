@@ -1,13 +1,13 @@
 -- The judge accepts exactly the lists that the rules give: by one induction over trees each. Assumes nothing.
 use mathlib.Core.Bool.{Bool, true, false, cond, ◌&&◌, false≢true}
 use mathlib.Core.List.{List, [], ◌∷◌}
-use mathlib.Core.Option.{none, some}
 use mathlib.Core.Path.{◌≡◌, refl, ◌∙◌}
 use Prim.Native.Nat.{ℕ, suc, ◌%◌, ◌^◌, ◌<◌}
 use native.Mathlib.Nat.{mod-eq_of_lt}
 use native.Mathlib.Omega.{arith}
 use borrow.Author.Tests.{eqb-true, eq-eqb}
 use lib.Dec.{eqb}
+use Rattle.std.proofs.Common.{Option, None, Some}
 use Rattle.rules.specs.State.{Device}
 use Rattle.rules.specs.Act.{Act, Done, Endless, Stage, Fetch, Store, Ask, Put, Look, window, table}
 use Rattle.rules.specs.Bytes.{bytes, part, splice}
@@ -15,8 +15,7 @@ use Rattle.rules.specs.Fields.{bits_in, holds, with_field, setting_of}
 use Rattle.rules.specs.With.{with_table}
 use Rattle.rules.proofs.BoolLaws.{and_left, and_right, and_both}
 use Rattle.captures.specs.declared.Due.{Due}
-use Rattle.captures.specs.declared.Judged.{Judged}
-use Rattle.captures.specs.Capture.{Access, reads, writes, first, rest, accesses, read_as, wrote_as, ended, judge}
+use Rattle.captures.specs.Capture.{Judged, allowed, departs, Access, reads, writes, first, rest, accesses, read_as, wrote_as, ended, judge}
 
 -- the values that the reads of a list give
 unfoldable pub values : List Access → List ℕ
@@ -41,7 +40,7 @@ module _ {A : Type 0} (a n : ℕ) (d : Device) (l : List Access) (i : ℕ) where
   read_next k v = by (eqb a a && eqb n n) (and_both (same a) (same n))
     where
       by : (t : Bool) → t ≡ true
-          → ◌≡◌ {A = Judged} (elim (cond t (some v) none) [ none ↦ Judged.Departs i (Due.Read a n) | some x ↦ judge (k (bytes n x)) d l (suc i) ]) (judge (k (bytes n v)) d l (suc i))
+          → ◌≡◌ {A = Judged} (elim (cond t (Some v) None) [ None ↦ departs i (Some (Due.Read a n)) | Some x ↦ judge (k (bytes n x)) d l (suc i) ]) (judge (k (bytes n v)) d l (suc i))
       by true e = refl
       by false e = absurd (false≢true e)
 
@@ -50,13 +49,13 @@ module _ {A : Type 0} (a n : ℕ) (d : Device) (l : List Access) (i : ℕ) where
   write_next v k = by (eqb a a && eqb n n && eqb (v % 256 ^ n) (v % 256 ^ n)) (and_both (and_both (same a) (same n)) (same (v % 256 ^ n)))
     where
       by : (t : Bool) → t ≡ true
-          → ◌≡◌ {A = Judged} (elim t [ true ↦ judge k d l (suc i) | false ↦ Judged.Departs i (Due.Write a n (v % 256 ^ n)) ]) (judge k d l (suc i))
+          → ◌≡◌ {A = Judged} (elim t [ true ↦ judge k d l (suc i) | false ↦ departs i (Some (Due.Write a n (v % 256 ^ n))) ]) (judge k d l (suc i))
       by true e = refl
       by false e = absurd (false≢true e)
 
 -- ---- every list that the rules give is allowed
 
-pub complete : {A : Type 0} (m : Act A) (d : Device) (vs : List ℕ) (i : ℕ) → judge m d (accesses m d vs) i ≡ Judged.Allowed
+pub complete : {A : Type 0} (m : Act A) (d : Device) (vs : List ℕ) (i : ℕ) → judge m d (accesses m d vs) i ≡ allowed
 unfolding judge accesses ended read_as wrote_as rest
 complete (Done a) d vs i = refl
 complete Endless d vs i = refl
@@ -72,24 +71,24 @@ complete (Look s k) d vs i = complete (k (setting_of s d)) d vs i
 
 -- ---- and no other: an allowed list is the one that the rules give for the values that it reads
 
-not_allowed : {P : Type 0} (i : ℕ) (due : Due) → Judged.Departs i due ≡ Judged.Allowed → P
+not_allowed : {P : Type 0} (i : ℕ) (due : Option Due) → departs i due ≡ allowed → P
 not_allowed i due e = let z : ◌≡◌ {A = ℕ} 0 1 = cc in absurd (omega arith)
 
-pub sound : {A : Type 0} (m : Act A) (d : Device) (l : List Access) (i : ℕ) → Fit l → judge m d l i ≡ Judged.Allowed → accesses m d (values l) ≡ l
+pub sound : {A : Type 0} (m : Act A) (d : Device) (l : List Access) (i : ℕ) → Fit l → judge m d l i ≡ allowed → accesses m d (values l) ≡ l
 unfolding judge accesses ended read_as wrote_as first rest values
 sound (Done a) d [] i f e = refl
-sound (Done a) d (x ∷ l) i f e = not_allowed i Due.Nothing e
+sound (Done a) d (x ∷ l) i f e = not_allowed i None e
 sound Endless d [] i f e = refl
-sound Endless d (x ∷ l) i f e = not_allowed i Due.Nothing e
+sound Endless d (x ∷ l) i f e = not_allowed i None e
 sound (Stage n k) d l i f e = sound k d l i f e
-sound (Fetch window a n k) d [] i f e = not_allowed i (Due.Read a n) e
-sound (Fetch window a n k) d (writes b w v ∷ l) i f e = not_allowed i (Due.Read a n) e
+sound (Fetch window a n k) d [] i f e = not_allowed i (Some (Due.Read a n)) e
+sound (Fetch window a n k) d (writes b w v ∷ l) i f e = not_allowed i (Some (Due.Read a n)) e
 sound (Fetch window a n k) d (reads b w v ∷ l) i f e = by (eqb a b && eqb n w) refl (sound (k (bytes n v)) d l (suc i) f.1) e
   where
-    by : (t : Bool) → eqb a b && eqb n w ≡ t → (judge (k (bytes n v)) d l (suc i) ≡ Judged.Allowed → accesses (k (bytes n v)) d (values l) ≡ l)
-        → ◌≡◌ {A = Judged} (elim (cond t (some v) none) [ none ↦ Judged.Departs i (Due.Read a n) | some x ↦ judge (k (bytes n x)) d l (suc i) ]) Judged.Allowed
+    by : (t : Bool) → eqb a b && eqb n w ≡ t → (judge (k (bytes n v)) d l (suc i) ≡ allowed → accesses (k (bytes n v)) d (values l) ≡ l)
+        → ◌≡◌ {A = Judged} (elim (cond t (Some v) None) [ None ↦ departs i (Some (Due.Read a n)) | Some x ↦ judge (k (bytes n x)) d l (suc i) ]) allowed
         → reads a n (v % 256 ^ n) ∷ accesses (k (bytes n (v % 256 ^ n))) d (values l) ≡ reads b w v ∷ l
-    by false t h e = not_allowed i (Due.Read a n) e
+    by false t h e = not_allowed i (Some (Due.Read a n)) e
     by true t h e =
         let at : a ≡ b = eqb-true a b (and_left (eqb a b) (eqb n w) t) in
         let wide : n ≡ w = eqb-true n w (and_right (eqb a b) (eqb n w) t) in
@@ -98,14 +97,14 @@ sound (Fetch window a n k) d (reads b w v ∷ l) i f e = by (eqb a b && eqb n w)
         let after : accesses (k (bytes n v)) d (values l) ≡ l = h e in
         rw (← at, ← wide, cut, after)
 sound (Fetch table a n k) d l i f e = sound (k (part d.table a n)) d l i f e
-sound (Store window a n v k) d [] i f e = not_allowed i (Due.Write a n (v % 256 ^ n)) e
-sound (Store window a n v k) d (reads b w x ∷ l) i f e = not_allowed i (Due.Write a n (v % 256 ^ n)) e
+sound (Store window a n v k) d [] i f e = not_allowed i (Some (Due.Write a n (v % 256 ^ n))) e
+sound (Store window a n v k) d (reads b w x ∷ l) i f e = not_allowed i (Some (Due.Write a n (v % 256 ^ n))) e
 sound (Store window a n v k) d (writes b w x ∷ l) i f e = by (eqb a b && eqb n w && eqb (v % 256 ^ n) x) refl (sound k d l (suc i) f.1) e
   where
-    by : (t : Bool) → eqb a b && eqb n w && eqb (v % 256 ^ n) x ≡ t → (judge k d l (suc i) ≡ Judged.Allowed → accesses k d (values l) ≡ l)
-        → ◌≡◌ {A = Judged} (elim t [ true ↦ judge k d l (suc i) | false ↦ Judged.Departs i (Due.Write a n (v % 256 ^ n)) ]) Judged.Allowed
+    by : (t : Bool) → eqb a b && eqb n w && eqb (v % 256 ^ n) x ≡ t → (judge k d l (suc i) ≡ allowed → accesses k d (values l) ≡ l)
+        → ◌≡◌ {A = Judged} (elim t [ true ↦ judge k d l (suc i) | false ↦ departs i (Some (Due.Write a n (v % 256 ^ n))) ]) allowed
         → writes a n (v % 256 ^ n) ∷ accesses k d (values l) ≡ writes b w x ∷ l
-    by false t h e = not_allowed i (Due.Write a n (v % 256 ^ n)) e
+    by false t h e = not_allowed i (Some (Due.Write a n (v % 256 ^ n))) e
     by true t h e =
         let at : a ≡ b = eqb-true a b (and_left (eqb a b) (eqb n w) (and_left (eqb a b && eqb n w) (eqb (v % 256 ^ n) x) t)) in
         let wide : n ≡ w = eqb-true n w (and_right (eqb a b) (eqb n w) (and_left (eqb a b && eqb n w) (eqb (v % 256 ^ n) x) t)) in

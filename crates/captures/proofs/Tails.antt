@@ -2,13 +2,13 @@
 -- steps on table and fields. Assumes nothing.
 use mathlib.Core.Bool.{Bool, true, false, cond, not, ◌&&◌}
 use mathlib.Core.List.{List, [], ◌++◌}
-use mathlib.Core.Option.{Option, none, some}
 use mathlib.Core.Path.{◌≡◌, refl, sym, ap, ◌∙◌}
 use Prim.Native.Nat.{ℕ, zero, suc, ◌+◌, ◌-◌, ◌/◌, ◌%◌, ◌^◌, ◌≤◌}
 use native.Mathlib.Omega.{arith}
 use borrow.Author.Tests.{eqb-true, eqb-false, eq-eqb, ne_eqb}
 use lib.Dec.{eqb}
 use lib.ListN.{length, replicate, length-append}
+use Rattle.std.proofs.Common.{Option, None, Some}
 use Rattle.rules.specs.State.{Device}
 use Rattle.rules.specs.declared.Tcd.{Tcd}
 use Rattle.rules.specs.Act.{Act, Done, Fetch, Store, Ask, Put, Field, done, nothing, change, when, window, table, ◌>>=◌, ◌>>◌, acts, MAJORS}
@@ -22,8 +22,7 @@ use Rattle.rules.specs.Minor.{START, ACTIVE, DONE, ESG, MAJORELINK, tcd_of, tcd_
 use Rattle.rules.proofs.BytesLaws.{part-first, part-part, part-splice_below, part-splice-above, part-splice-same, length_bytes, length_splice, value_of_bytes}
 use Rattle.rules.proofs.Masks.{gain_other, lose_other}
 use Rattle.captures.specs.declared.Due.{Due}
-use Rattle.captures.specs.declared.Judged.{Judged}
-use Rattle.captures.specs.Capture.{Access, rest, read_as, ended, judge, board}
+use Rattle.captures.specs.Capture.{Judged, departs, Access, rest, read_as, ended, judge, board}
 
 -- ---- steps on table and fields alone
 
@@ -100,10 +99,10 @@ gathered_alike (suc n) a got f k m q d e l i =
   where
     by : (o : Option ℕ)
         → ((v : ℕ) → judge (((gather n (a + 1) (got ++ bytes 1 v) >>= f) >> k) >> m) d (rest l) (suc i) ≡ judge (gathered n (a + 1)) e (rest l) (suc i))
-        → ◌≡◌ {A = Judged} (elim o [ none ↦ Judged.Departs i (Due.Read (wrap32 a) 1) | some v ↦ judge (((gather n (a + 1) (got ++ bytes 1 v) >>= f) >> k) >> m) d (rest l) (suc i) ])
-        (elim o [ none ↦ Judged.Departs i (Due.Read (wrap32 a) 1) | some v ↦ judge (gathered n (a + 1)) e (rest l) (suc i) ])
-    by none h = refl
-    by (some v) h = h v
+        → ◌≡◌ {A = Judged} (elim o [ None ↦ departs i (Some (Due.Read (wrap32 a) 1)) | Some v ↦ judge (((gather n (a + 1) (got ++ bytes 1 v) >>= f) >> k) >> m) d (rest l) (suc i) ])
+        (elim o [ None ↦ departs i (Some (Due.Read (wrap32 a) 1)) | Some v ↦ judge (gathered n (a + 1)) e (rest l) (suc i) ])
+    by None h = refl
+    by (Some v) h = h v
 
 unfoldable pub fetches : Tcd → Act (Unit {0})
 fetches t = cond (eqb (count_of t.citer) 1 && has t.csr ESG) (gathered 32 t.dlast) nothing

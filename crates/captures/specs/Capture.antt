@@ -1,7 +1,6 @@
 -- Document 02, [2]: the memory accesses of an act as a bus probe sees them; whether a list of accesses is one that the rules give, or where it first
 -- departs; and a list as records in a file. Assumes nothing.
-use Rattle.std.specs.Prelude.{Bool, true, false, cond, not, ◌&&◌, ◌||◌, List, [], ◌∷◌, ◌++◌, ℕ, zero, suc, ◌*◌, ◌/◌, ◌%◌, ◌^◌, eqb, ltb, length, replicate}
-use Rattle.std.proofs.Math.Option.{Option, none, some}
+use Rattle.std.specs.Prelude.{Option, None, Some, Result, Ok, Err, Bool, true, false, cond, not, ◌&&◌, ◌||◌, List, [], ◌∷◌, ◌++◌, ℕ, zero, suc, ◌*◌, ◌/◌, ◌%◌, ◌^◌, eqb, ltb, length, replicate}
 use Rattle.rules.specs.State.{Device}
 use Rattle.rules.specs.Act.{Act, Done, Endless, Stage, Fetch, Store, Ask, Put, Look, window, table}
 use Rattle.rules.specs.Scalars.{CR}
@@ -11,9 +10,28 @@ use Rattle.rules.specs.Fields.{bits_in, holds, with_field, setting_of}
 use Rattle.rules.specs.Minor.{pass}
 use Rattle.rules.specs.With.{with_table}
 use Rattle.captures.specs.declared.Due.{Due}
-use Rattle.captures.specs.declared.Judged.{Judged}
+use Rattle.captures.specs.declared.Departure.{Departure}
 use Rattle.captures.specs.declared.Flaw.{Flaw}
-use Rattle.captures.specs.declared.Captured.{Captured}
+use Rattle.captures.specs.declared.Malformed.{Malformed}
+
+-- ---- what is told
+
+-- the list is allowed, or departs at access number i, where this is due (or nothing)
+abbrev pub Judged : Type 0
+Judged = Option Departure
+
+abbrev pub allowed : Judged
+allowed = None
+
+abbrev pub departs : ℕ → Option Due → Judged
+departs i due = Some (record { at = i; due = due })
+
+-- record number i is malformed or cut; else a verdict
+abbrev pub Captured : Type 0
+Captured = Result Judged Malformed
+
+abbrev pub malformed : ℕ → Flaw → Captured
+malformed i f = Err (record { place = i; why = f })
 
 -- "read or write, address, width, value"
 pub data Access : Type 0 where
@@ -46,9 +64,9 @@ accesses (Look s k) d vs = accesses (k (setting_of s d)) d vs
 
 -- the value of the next access, if it is a read of n bytes at a
 unfoldable pub read_as : ℕ → ℕ → List Access → Option ℕ
-read_as a n [] = none
-read_as a n (reads b w v ∷ l) = cond (eqb a b && eqb n w) (some v) none
-read_as a n (writes b w v ∷ l) = none
+read_as a n [] = None
+read_as a n (reads b w v ∷ l) = cond (eqb a b && eqb n w) (Some v) None
+read_as a n (writes b w v ∷ l) = None
 
 -- whether the next access is a write of v in n bytes at a
 unfoldable pub wrote_as : ℕ → ℕ → ℕ → List Access → Bool
@@ -58,8 +76,8 @@ wrote_as a n v (writes b w x ∷ l) = eqb a b && eqb n w && eqb v x
 
 -- no access is left
 unfoldable pub ended : List Access → ℕ → Judged
-ended [] i = Judged.Allowed
-ended (x ∷ l) i = Judged.Departs i Due.Nothing
+ended [] i = allowed
+ended (x ∷ l) i = departs i None
 
 -- an act's judge: l is what is left of the list, and its first access is number i
 unfoldable pub judge : {A : Type 0} → Act A → Device → List Access → ℕ → Judged
@@ -67,10 +85,10 @@ judge (Done a) d l i = ended l i
 judge Endless d l i = ended l i
 judge (Stage n k) d l i = judge k d l i
 judge (Fetch window a n k) d l i =
-    elim (read_as a n l) [ none ↦ Judged.Departs i (Due.Read a n) | some v ↦ judge (k (bytes n v)) d (rest l) (suc i) ]
+    elim (read_as a n l) [ None ↦ departs i (Some (Due.Read a n)) | Some v ↦ judge (k (bytes n v)) d (rest l) (suc i) ]
 judge (Fetch table a n k) d l i = judge (k (part d.table a n)) d l i
 judge (Store window a n v k) d l i =
-    elim (wrote_as a n (v % 256 ^ n) l) [ true ↦ judge k d (rest l) (suc i) | false ↦ Judged.Departs i (Due.Write a n (v % 256 ^ n)) ]
+    elim (wrote_as a n (v % 256 ^ n) l) [ true ↦ judge k d (rest l) (suc i) | false ↦ departs i (Some (Due.Write a n (v % 256 ^ n))) ]
 judge (Store table a n v k) d l i = judge k (with_table d (splice d.table a (bytes n v))) l i
 judge (Ask f k) d l i = judge (k (holds f d)) d l i
 judge (Put f v k) d l i = judge k (with_field f (v % 2 ^ bits_in d.chip f) d) l i
@@ -105,10 +123,10 @@ value_of r = number (part r 8 8)
 -- the first thing that is wrong with a record
 unfoldable pub flaw_of : List ℕ → Option Flaw
 flaw_of r =
-    cond (not (eqb (mark_of r) 0x4A52)) (some Flaw.Mark)
-    (cond (not (eqb (kind_in r) 4 || eqb (kind_in r) 5)) (some Flaw.Kind)
-    (cond (not (eqb (width_of r) 1 || eqb (width_of r) 2 || eqb (width_of r) 4)) (some Flaw.Width)
-    (cond (not (ltb (value_of r) (256 ^ width_of r))) (some Flaw.Value) none)))
+    cond (not (eqb (mark_of r) 0x4A52)) (Some Flaw.Mark)
+    (cond (not (eqb (kind_in r) 4 || eqb (kind_in r) 5)) (Some Flaw.Kind)
+    (cond (not (eqb (width_of r) 1 || eqb (width_of r) 2 || eqb (width_of r) 4)) (Some Flaw.Width)
+    (cond (not (ltb (value_of r) (256 ^ width_of r))) (Some Flaw.Value) None)))
 
 unfoldable pub access_of : List ℕ → Access
 access_of r = cond (eqb (kind_in r) 4) (reads (address_of r) (width_of r) (value_of r)) (writes (address_of r) (width_of r) (value_of r))
@@ -133,15 +151,15 @@ module _ (file : List ℕ) where
   unfoldable pub unless_flawed : ℕ → ℕ → Captured → Captured
   unless_flawed zero i after = after
   unless_flawed (suc n) i after =
-      elim (flaw_of (record_at i)) [ some f ↦ Captured.Refused i f | none ↦ unless_flawed n (suc i) after ]
+      elim (flaw_of (record_at i)) [ Some f ↦ malformed i f | None ↦ unless_flawed n (suc i) after ]
 
   -- a malformed record comes before a cut one, and both before any verdict
   unfoldable pub captured : List ℕ → ℕ → Captured
   captured descriptor cr =
       unless_flawed (records file) 0
       (cond (is_cut file)
-      (Captured.Refused (records file) Flaw.Cut)
-      (Captured.Found (judged descriptor cr (accesses_of (records file) 0))))
+      (malformed (records file) Flaw.Cut)
+      (Ok (judged descriptor cr (accesses_of (records file) 0))))
 
 -- on an `unfolding` line: all the definitions of this file
 unfoldable pub captures : Unit {0}

@@ -2,20 +2,22 @@
 // judges is crate `judge`.
 #![tactic(auto)]
 
-// What the rules ask for next: a read (address, width), a write (address, width, value), or no more accesses.
+// What the rules ask for next: a read (address, width), or a write (address, width, value).
 #[derive(Clone, Copy)]
 pub enum Due {
     Read(u32, u32),
     Write(u32, u32, u32),
-    Nothing,
 }
 
-// "Whether our rules allow it, or at which access it first departs", counted from 0, and what is due there.
+// The access, counted from 0, at which a list first departs from the rules, and what is due there: nothing, where they ask for no more accesses.
 #[derive(Clone, Copy)]
-pub enum Judged {
-    Allowed,
-    Departs(u64, Due),
+pub struct Departure {
+    pub at: u64,
+    pub due: Option<Due>,
 }
+
+// "Whether our rules allow it, or at which access it first departs."
+pub type Judged = Option<Departure>;
 
 // Why a record is malformed, or "cut".
 #[derive(Clone, Copy)]
@@ -27,9 +29,12 @@ pub enum Flaw {
     Cut,
 }
 
-// "22, a malformed or cut record, with its place and no verdict"; else the verdict.
+// "A malformed or cut record, with its place."
 #[derive(Clone, Copy)]
-pub enum Captured {
-    Refused(u64, Flaw),
-    Found(Judged),
+pub struct Malformed {
+    pub place: u64,
+    pub why: Flaw,
 }
+
+// "22, a malformed or cut record, with its place and no verdict"; else the verdict.
+pub type Captured = Result<Judged, Malformed>;

@@ -17,8 +17,7 @@ use Rattle.rules.specs.declared.Refusal.{Refusal}
 use Rattle.rules.specs.Verdicts.{Verdict}
 use Rattle.rules.proofs.Told.{refusal_suc}
 use Rattle.image.specs.Image.{image_of, device_in, is_image}
-use Rattle.captures.specs.declared.Captured.{Captured}
-use Rattle.captures.specs.Capture.{captured}
+use Rattle.captures.specs.Capture.{Captured, captured}
 use Rattle.answers.specs.Answers.{packed, left, left_by, read_by, captured_by}
 use Rattle.entries.specs.Entry.{image_after, entered, entered_read, entered_capture, freshened}
 

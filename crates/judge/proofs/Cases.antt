@@ -1,40 +1,28 @@
 -- The walk's definitions, by cases. Assumes nothing.
-use Rattle.std.proofs.Common.{◌≡◌, ℕ, zero, suc, ◌+◌, ◌-◌, ◌*◌, ◌/◌, ◌%◌, ◌^◌, ◌<◌, ◌≤◌, Bool, true, false, ◌&&◌, ◌||◌, eqb, ltb, ◌⊎◌, List, [], ◌∷◌, length, get_or, sym, refl, ap, ◌∙◌, inl, inr, mod-lt, mul_comm, mul-le-mul, arith, lit<, lit≤, le-ltb, lt-ltb, eq-eqb, ne_eqb, eqb-true}
+use Rattle.std.proofs.Common.{◌≡◌, ℕ, zero, suc, ◌+◌, ◌-◌, ◌*◌, ◌/◌, ◌%◌, ◌^◌, ◌<◌, ◌≤◌, min, Bool, true, false, ◌&&◌, ◌||◌, eqb, ltb, List, [], ◌∷◌, ◌++◌, length, get_or, sym, refl, ap, ◌∙◌, inl, inr, add-zero, mul-le-mul, arith, lit<, lit≤, le-ltb, lt-ltb, eq-eqb, ne_eqb, Ok, Err}
 use Rattle.rules.specs.declared.Tcd.{Tcd}
 use Rattle.rules.specs.Bytes.{number, part}
 use Rattle.rules.specs.Minor.{ESG, ssize, dsize, minor_bytes}
-use Rattle.rules.specs.Words.{has, size_of, unit_of, wholes, wrap32, signed, count_of}
+use Rattle.rules.specs.Words.{has, size_of, unit_of, wholes, signed, count_of}
 use Rattle.words.specs.Sizes.{a_size, Sized}
-use Rattle.rules.proofs.BytesLaws.{part-part}
+use Rattle.rules.proofs.BytesLaws.{part-part, number_append}
 use Rattle.captures.specs.declared.Flaw.TheVariants as Flaw
 use Rattle.captures.specs.Capture.{mark_of, kind_in, width_of, address_of, value_of, flaw_of, record_at}
-use Rattle.captures.specs.declared.Due.{Due}
 use Rattle.judge.specs.declared.Side.{Side}
 use Rattle.judge.specs.declared.Plan.{Plan}
-use Rattle.judge.specs.declared.Place.{Place}
 use Rattle.judge.specs.declared.Walk.{Walk}
-use Rattle.judge.specs.declared.Seen.{Seen}
-use Rattle.judge.specs.declared.Record.{Record}
 use Rattle.judge.specs.declared.Course.{Course}
-use Rattle.judge.specs.Walks.{a_unit, Parted, Narrow, Fitting, Within, Sane, Safe, side_of, reads_of, plan_of, place_at, next_unit, advanced, fetch_on, ending_of, moves_from, writes_from, reads_from, start_of, move_on, read_on, write_on, onward_of, unit_at, source_byte, source_bytes, source_number, place_of, due_of, seen_in, unless_unfit, looked_at, meets_due, walk_on, step_of, on_all}
+use Rattle.judge.specs.Walks.{Record, Parted, Narrow, Fitting, side_of, reads_of, plan_of, moves_from, reads_from, start_of, source_byte, source_bytes, source_number, seen_in, unless_unfit, looked_at, step_of, on_all}
 
 -- ---- a size and its unit
 
-pub small : (n : ℕ) → a_size n → n < 4 → Parted n n
+pub parted : (n : ℕ) {m : ℕ} → a_size n → m ≡ min n 4 → Parted n m
 unfolding unit_of
-small n (inl e) h = rw e (record { is_unit = refl; which = inl refl; some_unit = lit< tt; unit_most = lit≤ tt; some_units = lit≤ tt; units_most = lit≤ tt })
-small n (inr (inl e)) h = rw e (record { is_unit = refl; which = inr (inl refl); some_unit = lit< tt; unit_most = lit≤ tt; some_units = lit≤ tt; units_most = lit≤ tt })
-small n (inr (inr (inl e))) h = absurd (omega arith)
-small n (inr (inr (inr (inl e)))) h = absurd (omega arith)
-small n (inr (inr (inr (inr e)))) h = absurd (omega arith)
-
-pub large : (n : ℕ) → a_size n → 4 ≤ n → Parted n 4
-unfolding unit_of
-large n (inl e) h = absurd (omega arith)
-large n (inr (inl e)) h = absurd (omega arith)
-large n (inr (inr (inl e))) h = rw e (record { is_unit = refl; which = inr (inr refl); some_unit = lit< tt; unit_most = lit≤ tt; some_units = lit≤ tt; units_most = lit≤ tt })
-large n (inr (inr (inr (inl e)))) h = rw e (record { is_unit = refl; which = inr (inr refl); some_unit = lit< tt; unit_most = lit≤ tt; some_units = lit≤ tt; units_most = lit≤ tt })
-large n (inr (inr (inr (inr e)))) h = rw e (record { is_unit = refl; which = inr (inr refl); some_unit = lit< tt; unit_most = lit≤ tt; some_units = lit≤ tt; units_most = lit≤ tt })
+parted n (inl e) h = rw (h, e) (record { is_unit = refl; which = inl refl; some_unit = lit< tt; unit_most = lit≤ tt; some_units = lit≤ tt; units_most = lit≤ tt })
+parted n (inr (inl e)) h = rw (h, e) (record { is_unit = refl; which = inr (inl refl); some_unit = lit< tt; unit_most = lit≤ tt; some_units = lit≤ tt; units_most = lit≤ tt })
+parted n (inr (inr (inl e))) h = rw (h, e) (record { is_unit = refl; which = inr (inr refl); some_unit = lit< tt; unit_most = lit≤ tt; some_units = lit≤ tt; units_most = lit≤ tt })
+parted n (inr (inr (inr (inl e)))) h = rw (h, e) (record { is_unit = refl; which = inr (inr refl); some_unit = lit< tt; unit_most = lit≤ tt; some_units = lit≤ tt; units_most = lit≤ tt })
+parted n (inr (inr (inr (inr e)))) h = rw (h, e) (record { is_unit = refl; which = inr (inr refl); some_unit = lit< tt; unit_most = lit≤ tt; some_units = lit≤ tt; units_most = lit≤ tt })
 
 -- ---- a side
 
@@ -57,14 +45,6 @@ a_side code off s z p o = (
   },
 )
 
--- ---- the end of the last minor loop
-
-pub not_last : (t : Tcd) {n : ℕ} → n ≡ count_of t.citer → (n ≡ 1 → ⊥) → false ≡ eqb (count_of t.citer) 1 && has t.csr ESG
-not_last t c h = rw (← c, ne_eqb _ 1 h)
-
-pub the_last : (t : Tcd) {n : ℕ} {on : Bool} → n ≡ count_of t.citer → n ≡ 1 → on ≡ has t.csr 4 → on ≡ eqb (count_of t.citer) 1 && has t.csr ESG
-the_last t c h o = rw (← c, eq-eqb _ 1 h) o
-
 -- ---- a plan
 
 pub reads_so : (cr : ℕ) (t : Tcd) {n size r : ℕ} → n ≡ minor_bytes cr t → size ≡ size_of (t.attr / 256) → (r ≡ wholes n size) × (r * size < 2 ^ 32)
@@ -85,30 +65,6 @@ unfolding side_of ssize
 bytes_fit t reads s h = rw s h
 
 -- ---- where a walk begins
-
-pub no_sizes : (p : Plan) {n : ℕ} {w : Walk} (a b : ℕ) → n ≡ 0 → w ≡ ending_of p → w ≡ moves_from p n a b
-unfolding moves_from
-no_sizes p a b h e = rw (eq-eqb _ 0 h) e
-
-pub some_sizes : (p : Plan) {n : ℕ} {at : Place} (a b : ℕ) → (n ≡ 0 → ⊥) → at ≡ place_at p.source (n - 1) a b → Walk.Move at ≡ moves_from p n a b
-unfolding moves_from
-some_sizes p a b h e = rw (ne_eqb _ 0 h, e)
-
-pub no_writes : (p : Plan) {n : ℕ} {w : Walk} (written read a b : ℕ) → n ≡ 0 → w ≡ ending_of p → w ≡ writes_from p n written read a b
-unfolding writes_from
-no_writes p written read a b h e = rw (eq-eqb _ 0 h) e
-
-pub some_writes : (p : Plan) {n : ℕ} {at : Place} (written read a b : ℕ) → (n ≡ 0 → ⊥) → at ≡ place_at p.dest (n - 1) a b → Walk.Write at written read ≡ writes_from p n written read a b
-unfolding writes_from
-some_writes p written read a b h e = rw (ne_eqb _ 0 h, e)
-
-pub no_reads : (p : Plan) {n : ℕ} {w : Walk} (read a b : ℕ) → n ≡ 0 → w ≡ writes_from p p.writes 0 read a b → w ≡ reads_from p n read a b
-unfolding reads_from
-no_reads p read a b h e = rw (eq-eqb _ 0 h) e
-
-pub some_reads : (p : Plan) {n : ℕ} {at : Place} (read a b : ℕ) → (n ≡ 0 → ⊥) → at ≡ place_at p.source (n - 1) a b → Walk.Read at ≡ reads_from p n read a b
-unfolding reads_from
-some_reads p read a b h e = rw (ne_eqb _ 0 h, e)
 
 source_size : (cr : ℕ) (t : Tcd) {p : Plan} → p ≡ plan_of cr t → p.source.size ≡ ssize t
 unfolding plan_of side_of ssize
@@ -132,47 +88,6 @@ module _ (cr : ℕ) (t : Tcd) {n : ℕ} (counted : n ≡ count_of t.citer) where
     unfolding start_of
     starts_unequal e r = rw (← counted, ne_eqb n 0 h, ne_eqb (ssize t) (dsize t) (λ q. e (source_size cr t planned ∙ q ∙ sym (dest_size cr t planned))), ← planned, ← counts) r
 
--- ---- where it stands after an access
-
-module _ (p : Plan) (at : Place) {w : Walk} where
-  pub moved-size : at.left ≡ 0 → {a b : ℕ} → a ≡ advanced p.source at.from → b ≡ advanced p.dest at.to → w ≡ moves_from p at.sizes a b → w ≡ move_on p at
-  unfolding move_on
-  moved-size h e f r = rw (eq-eqb at.left 0 h, ← e, ← f) r
-
-  pub read_size : (i : ℕ) → at.left ≡ 0 → {a : ℕ} → a ≡ advanced p.source at.from → w ≡ reads_from p at.sizes (i + 1) a at.to → w ≡ read_on p i at
-  unfolding read_on
-  read_size i h e r = rw (eq-eqb at.left 0 h, ← e) r
-
-  module _ (written read : ℕ) (h : at.left ≡ 0) where
-    pub wrote_last : at.sizes ≡ 0 → w ≡ ending_of p → w ≡ write_on p at written read
-    unfolding write_on writes_from
-    wrote_last e r = rw (eq-eqb at.left 0 h, eq-eqb at.sizes 0 e) r
-
-    pub wrote-size : {b : ℕ} → b ≡ advanced p.dest at.to → w ≡ writes_from p at.sizes (written + 1) read at.from b → w ≡ write_on p at written read
-    unfolding write_on
-    wrote-size e r = rw (eq-eqb at.left 0 h, ← e) r
-
-module _ (p : Plan) (at : Place) (h : at.left ≡ 0 → ⊥) {next : Place} (e : next ≡ next_unit at) where
-  pub moved_unit : Walk.Move next ≡ move_on p at
-  unfolding move_on
-  moved_unit = rw (ne_eqb at.left 0 h, e)
-
-  pub read_unit_lem : (i : ℕ) → Walk.Read next ≡ read_on p i at
-  unfolding read_on
-  read_unit_lem i = rw (ne_eqb at.left 0 h, e)
-
-  pub wrote_unit : (written read : ℕ) → Walk.Write next written read ≡ write_on p at written read
-  unfolding write_on
-  wrote_unit written read = rw (ne_eqb at.left 0 h, e)
-
-pub fetched_last : (left a : ℕ) → left ≡ 0 → Walk.Over ≡ fetch_on left a
-unfolding fetch_on
-fetched_last left a h = rw (eq-eqb left 0 h)
-
-pub fetched_one : (left a : ℕ) → (left ≡ 0 → ⊥) → Walk.Fetch (left - 1) (a + 1) ≡ fetch_on left a
-unfolding fetch_on
-fetched_one left a h = rw (ne_eqb left 0 h)
-
 -- ---- bytes of what was read
 
 -- two products of small numbers
@@ -184,25 +99,6 @@ large_product n size h l = let h' : n ≤ 2 ^ 32 = omega arith in let m : n * si
 
 pub place_fits : (written size k unit : ℕ) → written < 2 ^ 32 → size ≤ 32 → k < 8 → unit ≤ 4 → written * size + k * unit < 2 ^ 40
 place_fits written size k unit w s h l = omega (arith, large_product written size w s, small_product k unit h l)
-
--- a quotient is no larger
-pub quotient_fits : (n unit : ℕ) → a_unit unit → n < 2 ^ 40 → n / unit < 2 ^ 40
-quotient_fits n unit (inl e) h = rw e (omega arith)
-quotient_fits n unit (inr (inl e)) h = rw e (omega arith)
-quotient_fits n unit (inr (inr e)) h = rw e (omega arith)
-
-pub unit_some : (n : ℕ) → a_unit n → 0 < n
-unit_some n (inl e) = omega arith
-unit_some n (inr (inl e)) = omega arith
-unit_some n (inr (inr e)) = omega arith
-
-pub unit_few : (n : ℕ) → a_unit n → n ≤ 4
-unit_few n (inl e) = omega arith
-unit_few n (inr (inl e)) = omega arith
-unit_few n (inr (inr e)) = omega arith
-
-pub in_record : (n j : ℕ) → a_unit n → 16 - n + j % n < 16
-in_record n j u = omega (arith, unit_some n u, unit_few n u, mod-lt j (unit_some n u))
 
 module _ (sources : List ℕ) (origin unit read j : ℕ) where
   pub past_read : {n : ℕ} → n ≡ j / unit → read ≤ n → 0 ≡ source_byte sources origin unit read j
@@ -217,88 +113,35 @@ module _ (sources : List ℕ) (origin unit read j : ℕ) where
   unfolding source_byte
   at_hand {n} e h l r = rw (← e, lt-ltb n read h, le-ltb n origin (omega (arith, l))) r
 
-  -- one, two and four bytes as a number
-  pub one_byte_lem : {a : ℕ} → a ≡ source_byte sources origin unit read j → a ≡ source_number sources origin unit read j 1
-  unfolding source_number source_bytes number
-  one_byte_lem e = rw (← e) (omega arith)
+module _ (sources : List ℕ) (origin unit read : ℕ) where
+  one_byte_more : (n j : ℕ) → source_bytes sources origin unit read j (suc n) ≡ source_bytes sources origin unit read j n ++ (source_byte sources origin unit read (j + n) ∷ [])
+  unfolding source_bytes
+  one_byte_more zero j = ap (λ (k : ℕ). source_byte sources origin unit read k ∷ []) (sym (add-zero j))
+  one_byte_more (suc n) j =
+      let place : j + 1 + n ≡ j + suc n = omega arith in
+      ap (λ (l : List ℕ). source_byte sources origin unit read j ∷ l)
+      (one_byte_more n (j + 1) ∙ ap (λ (k : ℕ). source_bytes sources origin unit read (j + 1) n ++ (source_byte sources origin unit read k ∷ [])) place)
 
-  pub two_bytes : {a b : ℕ} → a ≡ source_byte sources origin unit read j → b ≡ source_byte sources origin unit read (j + 1) → a * 256 + b ≡ source_number sources origin unit read j 2
-  unfolding source_number source_bytes number
-  two_bytes e f = rw (← e, ← f) (omega arith)
+  -- the number that one byte more spells
+  pub number_more : (n j : ℕ) {v b : ℕ} → v ≡ source_number sources origin unit read j n → b ≡ source_byte sources origin unit read (j + n) → v * 256 + b ≡ source_number sources origin unit read j (n + 1)
+  unfolding source_number number
+  number_more n j e f =
+      let next : n + 1 ≡ suc n = omega arith in
+      rw (next, e, f, one_byte_more n j, number_append (source_bytes sources origin unit read j n) (source_byte sources origin unit read (j + n) ∷ []))
+      (ap (λ (b : ℕ). number (source_bytes sources origin unit read j n) * 256 + b) (one_digit (source_byte sources origin unit read (j + n))))
+    where
+      one_digit : (b : ℕ) → b ≡ number (b ∷ [])
+      one_digit b = omega arith
 
-  pub four_bytes : {a b : ℕ} → a ≡ source_number sources origin unit read j 2 → b ≡ source_number sources origin unit read (j + 2) 2 → a * 65536 + b ≡ source_number sources origin unit read j 4
-  unfolding source_number source_bytes number
-  four_bytes e f =
-      let two : j + 1 + 1 ≡ j + 2 = omega arith in
-      let three : j + 1 + 1 + 1 ≡ j + 2 + 1 = omega arith in
-      rw (e, f, two) (omega arith)
-
-pub the_unit : (n : ℕ) → a_unit n → (n ≡ 1 → ⊥) → (n ≡ 2 → ⊥) → n ≡ 4
-the_unit n (inl e) a b = absurd (a e)
-the_unit n (inr (inl e)) a b = absurd (b e)
-the_unit n (inr (inr e)) a b = e
-
--- ---- what is due
-
-module _ (sources : List ℕ) (origin : ℕ) (p : Plan) where
-  pub due_move : (at : Place) {w : Walk} {a : ℕ} → w ≡ Walk.Move at → a ≡ unit_at p.source at.from at.unit → Due.Read a p.source.unit ≡ due_of sources origin p w
-  unfolding due_of
-  due_move at e f = rw (e, f)
-
-  pub due_lay : (at : Place) (v : ℕ) {w : Walk} {a : ℕ} → w ≡ Walk.Lay at v → a ≡ unit_at p.source at.to at.unit → Due.Write a p.source.unit v ≡ due_of sources origin p w
-  unfolding due_of
-  due_lay at v e f = rw (e, f)
-
-  pub due_read : (at : Place) {w : Walk} {a : ℕ} → w ≡ Walk.Read at → a ≡ unit_at p.source at.from at.unit → Due.Read a p.source.unit ≡ due_of sources origin p w
-  unfolding due_of
-  due_read at e f = rw (e, f)
-
-  pub due_write : (at : Place) (written read : ℕ) {a v : ℕ} → a ≡ unit_at p.dest at.to at.unit
-      → v ≡ source_number sources origin p.source.unit read (place_of p.dest at written) p.dest.unit
-      → Due.Write a p.dest.unit v ≡ due_of sources origin p (Walk.Write at written read)
-  unfolding due_of
-  due_write at written read e f = rw (e, f)
-
-  pub due_fetch : (left a : ℕ) {w : Walk} → w ≡ Walk.Fetch left a → Due.Read (a % 2 ^ 32) 1 ≡ due_of sources origin p w
-  unfolding due_of wrap32
-  due_fetch left a e = rw e
-
-  pub due_over : {w : Walk} → w ≡ Walk.Over → Due.Nothing ≡ due_of sources origin p w
-  unfolding due_of
-  due_over e = rw e
-
--- ---- what a sane walk has
-
-pub within_move : (w : Walk) (at : Place) → Sane w → w ≡ Walk.Move at → Within at
-within_move w at s e = rw e at s
-
-pub within_lay : (w : Walk) (at : Place) (v : ℕ) → Sane w → w ≡ Walk.Lay at v → Within at
-within_lay w at v s e = rw e at s
-
-pub within_read : (w : Walk) (at : Place) → Sane w → w ≡ Walk.Read at → Within at
-within_read w at s e = rw e at s
-
-pub within-write : (w : Walk) (at : Place) (written read : ℕ) → Sane w → w ≡ Walk.Write at written read → Within at × (written + at.sizes < 2 ^ 32)
-within-write w at written read s e = rw e at s
-
-pub within-fetch : (w : Walk) (left a : ℕ) → Sane w → w ≡ Walk.Fetch left a → a + left < 2 ^ 33
-within-fetch w left a s e = rw e at s
-
-pub safe_going : (c : Course) (w : Walk) → Safe c → c ≡ Course.Going w → Sane w
-safe_going c w s e = rw e at s
+-- four bytes fit 32 bits
+pub bytes_fit_one : (n v b : ℕ) → n < 4 → v < 256 ^ n → b < 256 → (v * 256 + b < 2 ^ 32) × (v * 256 + b < 256 ^ (n + 1))
+bytes_fit_one zero v b h l m = (omega arith, omega arith)
+bytes_fit_one (suc zero) v b h l m = (omega arith, omega arith)
+bytes_fit_one (suc (suc zero)) v b h l m = (omega arith, omega arith)
+bytes_fit_one (suc (suc (suc zero))) v b h l m = (omega arith, omega arith)
+bytes_fit_one (suc (suc (suc (suc n)))) v b h l m = absurd (omega arith)
 
 -- ---- records
-
-pub a_width : (n : ℕ) → a_unit n → true ≡ (eqb n 1 || eqb n 2 || eqb n 4)
-a_width n (inl e) = rw e
-a_width n (inr (inl e)) = rw e
-a_width n (inr (inr e)) = rw e
-
-pub no-width : (n : ℕ) → (n ≡ 1 → ⊥) → (n ≡ 2 → ⊥) → (n ≡ 4 → ⊥) → false ≡ (eqb n 1 || eqb n 2 || eqb n 4)
-no-width n a b c = rw (ne_eqb n 1 a, ne_eqb n 2 b, ne_eqb n 4 c)
-
-pub width_four : (n : ℕ) → (eqb n 1 || eqb n 2 || eqb n 4) ≡ true → (n ≡ 1 → ⊥) → (n ≡ 2 → ⊥) → n ≡ 4
-width_four n e a b = eqb-true n 4 (rw (ne_eqb n 1 a, ne_eqb n 2 b) at e)
 
 module _ (l : List ℕ) (o : ℕ) where
   here : (i n : ℕ) → i + n ≤ 16 → number (part (part l o 16) i n) ≡ number (part l (o + i) n)
@@ -325,96 +168,35 @@ module _ (l : List ℕ) (o : ℕ) where
   value-here = here 8 8 (lit≤ tt)
 
   module _ {m : ℕ} (mark : m ≡ number (part l o 2)) where
-    pub no_mark : (m ≡ 0x4A52 → ⊥) → Record.Unfit Flaw.Mark ≡ looked_at (part l o 16)
+    pub no_mark : (m ≡ 0x4A52 → ⊥) → ◌≡◌ {A = Record} (Err Flaw.Mark) (looked_at (part l o 16))
     unfolding looked_at unless_unfit flaw_of
     no_mark h = rw (mark_here, ← mark, ne_eqb m 0x4A52 h)
 
     module _ (marked : m ≡ 0x4A52) {k : ℕ} (kind : k ≡ number (part l (o + 2) 1)) where
-      pub no_kind : (eqb k 4 || eqb k 5) ≡ false → Record.Unfit Flaw.Kind ≡ looked_at (part l o 16)
+      pub no_kind : (eqb k 4 || eqb k 5) ≡ false → ◌≡◌ {A = Record} (Err Flaw.Kind) (looked_at (part l o 16))
       unfolding looked_at unless_unfit flaw_of
       no_kind e = rw (mark_here, ← mark, eq-eqb m 0x4A52 marked, kind-here, ← kind, e)
 
       module _ (a-kind : (eqb k 4 || eqb k 5) ≡ true) {w : ℕ} (width : w ≡ number (part l (o + 3) 1)) where
-        pub bad_width : (eqb w 1 || eqb w 2 || eqb w 4) ≡ false → Record.Unfit Flaw.Width ≡ looked_at (part l o 16)
+        pub bad_width : (eqb w 1 || eqb w 2 || eqb w 4) ≡ false → ◌≡◌ {A = Record} (Err Flaw.Width) (looked_at (part l o 16))
         unfolding looked_at unless_unfit flaw_of
         bad_width e = rw (mark_here, ← mark, eq-eqb m 0x4A52 marked, kind-here, ← kind, a-kind, width-here, ← width, e)
 
         module _ (wide : (eqb w 1 || eqb w 2 || eqb w 4) ≡ true) {v : ℕ} (value : v ≡ number (part l (o + 8) 8)) where
-          pub too_wide : ltb v (256 ^ w) ≡ false → Record.Unfit Flaw.Value ≡ looked_at (part l o 16)
+          pub too_wide : ltb v (256 ^ w) ≡ false → ◌≡◌ {A = Record} (Err Flaw.Value) (looked_at (part l o 16))
           unfolding looked_at unless_unfit flaw_of
           too_wide e = rw (mark_here, ← mark, eq-eqb m 0x4A52 marked, kind-here, ← kind, a-kind, width-here, ← width, wide, value-here, ← value, e)
 
           pub no_flaw : ltb v (256 ^ w) ≡ true → {a : ℕ} → a ≡ number (part l (o + 4) 4)
-              → Record.Fit (record { read = eqb k 4; address = a; width = w; value = v }) ≡ looked_at (part l o 16)
+              → ◌≡◌ {A = Record} (Ok (record { read = eqb k 4; address = a; width = w; value = v })) (looked_at (part l o 16))
           unfolding looked_at unless_unfit flaw_of seen_in
           no_flaw e q = rw (mark_here, ← mark, eq-eqb m 0x4A52 marked, kind-here, ← kind, a-kind, width-here, ← width, wide, value-here, ← value, e, address_here, ← q)
-
-pub a_kind_is : (n : ℕ) → (n ≡ 4) ⊎ (n ≡ 5) → true ≡ (eqb n 4 || eqb n 5)
-a_kind_is n (inl e) = rw e
-a_kind_is n (inr e) = rw e
-
-pub no-kind_is : (n : ℕ) → (n ≡ 4 → ⊥) → (n ≡ 5 → ⊥) → false ≡ (eqb n 4 || eqb n 5)
-no-kind_is n a b = rw (ne_eqb n 4 a, ne_eqb n 5 b)
-
--- ---- whether an access is the one that is due
-
-module _ (x : Seen) (a n : ℕ) where
-  pub no_read : x.read ≡ false → false ≡ meets_due (Due.Read a n) x
-  unfolding meets_due
-  no_read e = rw e
-
-  pub read_elsewhere : x.read ≡ true → (a ≡ x.address → ⊥) → false ≡ meets_due (Due.Read a n) x
-  unfolding meets_due
-  read_elsewhere e h = rw (e, ne_eqb a x.address h)
-
-  pub read_there : x.read ≡ true → a ≡ x.address → eqb n x.width ≡ meets_due (Due.Read a n) x
-  unfolding meets_due
-  read_there e h = rw (e, eq-eqb a x.address h)
-
-  module _ (v : ℕ) where
-    pub no_write : x.read ≡ true → false ≡ meets_due (Due.Write a n v) x
-    unfolding meets_due
-    no_write e = rw e
-
-    pub write-elsewhere : x.read ≡ false → (a ≡ x.address → ⊥) → false ≡ meets_due (Due.Write a n v) x
-    unfolding meets_due
-    write-elsewhere e h = rw (e, ne_eqb a x.address h)
-
-    pub write_other : x.read ≡ false → a ≡ x.address → (n ≡ x.width → ⊥) → false ≡ meets_due (Due.Write a n v) x
-    unfolding meets_due
-    write_other e h l = rw (e, eq-eqb a x.address h, ne_eqb n x.width l)
-
-    pub write-there : x.read ≡ false → a ≡ x.address → n ≡ x.width → eqb v x.value ≡ meets_due (Due.Write a n v) x
-    unfolding meets_due
-    write-there e h l = rw (e, eq-eqb a x.address h, eq-eqb n x.width l)
-
--- ---- the course
-
-module _ (p : Plan) (sources : List ℕ) (origin i : ℕ) (w : Walk) (x : Seen) {due : Due} (asked : due ≡ due_of sources origin p w) where
-  pub departed : meets_due due x ≡ false → Course.Departed i due ≡ walk_on p sources origin i w x
-  unfolding walk_on
-  departed e = rw (← asked, e)
-
-  pub gone_on : meets_due due x ≡ true → {next : Walk} → next ≡ onward_of p i w x.value → Course.Going next ≡ walk_on p sources origin i w x
-  unfolding walk_on
-  gone_on e f = rw (← asked, e, f)
 
 -- beyond its end a list has nothing
 pub get_or_past : (l : List ℕ) (i : ℕ) → length l ≤ i → 0 ≡ get_or l i 0
 get_or_past [] i h = refl
 get_or_past (x ∷ l) zero h = absurd (omega arith)
 get_or_past (x ∷ l) (suc i) h = get_or_past l i (omega arith)
-
--- byte b of a record, from a list
-module _ (l : List ℕ) (place b : ℕ) (h : b < 16) where
-  pub no_record : length l / 16 < place → 0 ≡ get_or l (16 * place + b) 0
-  no_record e = get_or_past l (16 * place + b) (omega arith)
-
-  pub no_byte : length l ≤ place * 16 + b → 0 ≡ get_or l (16 * place + b) 0
-  no_byte e = get_or_past l (16 * place + b) (omega arith)
-
-  pub the_byte : get_or l (place * 16 + b) 0 ≡ get_or l (16 * place + b) 0
-  the_byte = ap (λ (k : ℕ). get_or l (k + b) 0) (mul_comm place 16)
 
 -- ---- all records
 

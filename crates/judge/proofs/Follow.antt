@@ -1,7 +1,6 @@
 -- The walk judges as the rules do: at each access what is due is what the rest of the rules' tree asks for, and where the walk stands after it is the
 -- rest of that tree. Assumes nothing.
-use Rattle.std.proofs.Common.{◌≡◌, ℕ, zero, suc, ◌+◌, ◌-◌, ◌*◌, ◌/◌, ◌%◌, ◌^◌, ◌<◌, Bool, true, false, cond, not, ◌&&◌, eqb, List, [], ◌∷◌, ◌++◌, length, sym, refl, ap, ◌∙◌, mod-eq_of_lt, suc-mul, zero-mul, add-one, arith, ne_eqb, eqb-true}
-use mathlib.Core.Option.{none, some}
+use Rattle.std.proofs.Common.{◌≡◌, ℕ, zero, suc, ◌+◌, ◌-◌, ◌*◌, ◌/◌, ◌%◌, ◌^◌, ◌<◌, Bool, true, false, cond, not, ◌&&◌, eqb, List, [], ◌∷◌, ◌++◌, length, sym, refl, ap, ◌∙◌, mod-eq_of_lt, suc-mul, zero-mul, add-one, arith, ne_eqb, eqb-true, None, Some}
 use Rattle.rules.specs.State.{Device}
 use Rattle.rules.specs.declared.Tcd.{Tcd}
 use Rattle.rules.specs.Act.{Act, Fetch, Store, window, done, nothing, stage, ◌>>=◌, ◌>>◌, acts}
@@ -11,8 +10,7 @@ use Rattle.rules.specs.Words.{wrap32}
 use Rattle.rules.proofs.BoolLaws.{and_right}
 use Rattle.rules.proofs.BytesLaws.{value_of_bytes}
 use Rattle.captures.specs.declared.Due.{Due}
-use Rattle.captures.specs.declared.Judged.{Judged}
-use Rattle.captures.specs.Capture.{Access, reads, writes, rest, read_as, wrote_as, ended, judge, value_of, record_at}
+use Rattle.captures.specs.Capture.{Judged, departs, Access, reads, writes, rest, read_as, wrote_as, ended, judge, value_of, record_at}
 use Rattle.captures.proofs.Tails.{gathered}
 use Rattle.judge.specs.declared.Plan.{Plan}
 use Rattle.judge.specs.declared.Place.{Place}
@@ -28,39 +26,39 @@ access_in x = cond x.read (reads x.address x.width x.value) (writes x.address x.
 
 module _ {A : Type 0} (a n : ℕ) (d : Device) (x : Seen) (l : List Access) (i : ℕ) where
   at_fetch : (k : List ℕ → Act A) → judge (Fetch window a n k) d (access_in x ∷ l) i
-      ≡ cond (meets_due (Due.Read a n) x) (judge (k (bytes n x.value)) d l (suc i)) (Judged.Departs i (Due.Read a n))
+      ≡ cond (meets_due (Some (Due.Read a n)) x) (judge (k (bytes n x.value)) d l (suc i)) (departs i (Some (Due.Read a n)))
   unfolding judge access_in read_as rest meets_due
   at_fetch k = by x.read (eqb a x.address) (eqb n x.width) refl refl
     where
       by : (r s t : Bool) → eqb a x.address ≡ s → eqb n x.width ≡ t
           → judge (Fetch window a n k) d (cond r (reads x.address x.width x.value) (writes x.address x.width x.value) ∷ l) i
-          ≡ cond (r && s && t) (judge (k (bytes n x.value)) d l (suc i)) (Judged.Departs i (Due.Read a n))
+          ≡ cond (r && s && t) (judge (k (bytes n x.value)) d l (suc i)) (departs i (Some (Due.Read a n)))
       by false s t e f = refl
       by true s t e f = both s t (ap (λ (b : Bool). b && eqb n x.width) e ∙ ap (λ (b : Bool). s && b) f)
         where
           told : Bool → Judged
-          told b = elim (cond b (some x.value) none) [ none ↦ Judged.Departs i (Due.Read a n) | some v ↦ judge (k (bytes n v)) d l (suc i) ]
+          told b = elim (cond b (Some x.value) None) [ None ↦ departs i (Some (Due.Read a n)) | Some v ↦ judge (k (bytes n v)) d l (suc i) ]
 
           both : (s t : Bool) → (eqb a x.address && eqb n x.width) ≡ (s && t)
-              → told (eqb a x.address && eqb n x.width) ≡ cond (true && s && t) (judge (k (bytes n x.value)) d l (suc i)) (Judged.Departs i (Due.Read a n))
+              → told (eqb a x.address && eqb n x.width) ≡ cond (true && s && t) (judge (k (bytes n x.value)) d l (suc i)) (departs i (Some (Due.Read a n)))
           both true true e = ap told e
           both true false e = ap told e
           both false t e = ap told e
 
   at_store : (v : ℕ) (k : Act A) → judge (Store window a n v k) d (access_in x ∷ l) i
-      ≡ cond (meets_due (Due.Write a n (v % 256 ^ n)) x) (judge k d l (suc i)) (Judged.Departs i (Due.Write a n (v % 256 ^ n)))
+      ≡ cond (meets_due (Some (Due.Write a n (v % 256 ^ n))) x) (judge k d l (suc i)) (departs i (Some (Due.Write a n (v % 256 ^ n))))
   unfolding judge access_in wrote_as rest meets_due
   at_store v k = by x.read (eqb a x.address && eqb n x.width && eqb (v % 256 ^ n) x.value) refl
     where
       told : Bool → Judged
-      told b = elim b [ true ↦ judge k d l (suc i) | false ↦ Judged.Departs i (Due.Write a n (v % 256 ^ n)) ]
+      told b = elim b [ true ↦ judge k d l (suc i) | false ↦ departs i (Some (Due.Write a n (v % 256 ^ n))) ]
 
       by : (r s : Bool) → (eqb a x.address && eqb n x.width && eqb (v % 256 ^ n) x.value) ≡ s
           → judge (Store window a n v k) d (cond r (reads x.address x.width x.value) (writes x.address x.width x.value) ∷ l) i
-          ≡ cond (not r && eqb a x.address && eqb n x.width && eqb (v % 256 ^ n) x.value) (judge k d l (suc i)) (Judged.Departs i (Due.Write a n (v % 256 ^ n)))
+          ≡ cond (not r && eqb a x.address && eqb n x.width && eqb (v % 256 ^ n) x.value) (judge k d l (suc i)) (departs i (Some (Due.Write a n (v % 256 ^ n))))
       by true s e = refl
-      by false true e = ap told e ∙ ap (λ (b : Bool). cond b (judge k d l (suc i)) (Judged.Departs i (Due.Write a n (v % 256 ^ n)))) (sym e)
-      by false false e = ap told e ∙ ap (λ (b : Bool). cond b (judge k d l (suc i)) (Judged.Departs i (Due.Write a n (v % 256 ^ n)))) (sym e)
+      by false true e = ap told e ∙ ap (λ (b : Bool). cond b (judge k d l (suc i)) (departs i (Some (Due.Write a n (v % 256 ^ n))))) (sym e)
+      by false false e = ap told e ∙ ap (λ (b : Bool). cond b (judge k d l (suc i)) (departs i (Some (Due.Write a n (v % 256 ^ n))))) (sym e)
 
 some_left : (n : ℕ) → eqb (suc n) 0 ≡ false
 some_left n = ne_eqb (suc n) 0 (omega arith)
@@ -215,10 +213,10 @@ module _ {A : Type 0} (p : Plan) (f : Fitting p) (d : Device) (k : ℕ × ℕ �
       pub at_end : (w : Walk) (got : List ℕ) (c i : ℕ) → Ready i w got → left_of_lem w got c [] i ≡ ended_at i (due_of file 0 p w)
       unfolding left_of_lem judge ended read_as wrote_as ended_at due_of place_of unit_at move_units move_unit read_units read_unit write_units gathered acts
       at_end (Walk.Move at) got c i r = refl
-      at_end (Walk.Lay at v) got c i r = ap (λ (n : ℕ). Judged.Departs i (Due.Write (wrap32 (at.to + at.unit * p.source.unit)) p.source.unit n)) (laid v r)
+      at_end (Walk.Lay at v) got c i r = ap (λ (n : ℕ). departs i (Some (Due.Write (wrap32 (at.to + at.unit * p.source.unit)) p.source.unit n))) (laid v r)
       at_end (Walk.Read at) got c i r = refl
       at_end (Walk.Write at written read) got c i r =
-          ap (λ (n : ℕ). Judged.Departs i (Due.Write (wrap32 (at.to + at.unit * p.dest.unit)) p.dest.unit n)) (number_known file p.source.unit b read got r (written * p.dest.size + at.unit * p.dest.unit) p.dest.unit)
+          ap (λ (n : ℕ). departs i (Some (Due.Write (wrap32 (at.to + at.unit * p.dest.unit)) p.dest.unit n))) (number_known file p.source.unit b read got r (written * p.dest.size + at.unit * p.dest.unit) p.dest.unit)
       at_end (Walk.Fetch left a) got c i r = refl
       at_end Walk.Over got c i r = refl
 
@@ -242,7 +240,7 @@ module _ {A : Type 0} (p : Plan) (f : Fitting p) (d : Device) (k : ℕ × ℕ �
       -- the next access is what is due, and then the walk goes on; or it departs
       pub stepping : (w : Walk) (got : List ℕ) (c : ℕ) (x : Seen) (l : List Access) (i : ℕ) → Ready i w got
           → left_of_lem w got c (access_in x ∷ l) i
-          ≡ cond (meets_due (due_of file 0 p w) x) (left_of_lem (onward_of p i w x.value) (got_on w got x.value) (to_on w c) l (suc i)) (Judged.Departs i (due_of file 0 p w))
+          ≡ cond (meets_due (due_of file 0 p w) x) (left_of_lem (onward_of p i w x.value) (got_on w got x.value) (to_on w c) l (suc i)) (departs i (due_of file 0 p w))
       unfolding left_of_lem got_on to_on due_of place_of onward_of unit_at meets_due ended move_units move_unit read_units read_unit write_units gathered acts
       stepping (Walk.Move at) got c x l i r = at_fetch (wrap32 (at.from + at.unit * p.source.unit)) p.source.unit d x l i _
       stepping (Walk.Lay at v) got c x l i r =
@@ -250,24 +248,24 @@ module _ {A : Type 0} (p : Plan) (f : Fitting p) (d : Device) (k : ℕ × ℕ �
           let u = p.source.unit in
           let onward = (move_units at.left (suc at.unit) u at.from at.to >>= (λ _. moving at.sizes (advanced p.source at.from) (advanced p.dest at.to))) >>= k in
           at_store a u d x l i (number (bytes u v)) onward
-          ∙ ap (λ (n : ℕ). cond (meets_due (Due.Write a u n) x) (judge onward d l (suc i)) (Judged.Departs i (Due.Write a u n))) (laid v r)
-          ∙ ap (λ (j : Judged). cond (meets_due (Due.Write a u v) x) j (Judged.Departs i (Due.Write a u v))) (moved_on at got c l (suc i))
+          ∙ ap (λ (n : ℕ). cond (meets_due (Some (Due.Write a u n)) x) (judge onward d l (suc i)) (departs i (Some (Due.Write a u n)))) (laid v r)
+          ∙ ap (λ (j : Judged). cond (meets_due (Some (Due.Write a u v)) x) j (departs i (Some (Due.Write a u v)))) (moved_on at got c l (suc i))
       stepping (Walk.Read at) got c x l i r =
           let a = wrap32 (at.from + at.unit * p.source.unit) in
           let u = p.source.unit in
           at_fetch a u d x l i _
-          ∙ ap (λ (j : Judged). cond (meets_due (Due.Read a u) x) j (Judged.Departs i (Due.Read a u))) (read_on_lem at (got ++ bytes u x.value) i l (suc i))
+          ∙ ap (λ (j : Judged). cond (meets_due (Some (Due.Read a u)) x) j (departs i (Some (Due.Read a u)))) (read_on_lem at (got ++ bytes u x.value) i l (suc i))
       stepping (Walk.Write at written read) got c x l i r =
           let a = wrap32 (at.to + at.unit * p.dest.unit) in
           let u = p.dest.unit in
           let o = written * p.dest.size in
           let onward = ((write_units at.left (suc at.unit) u at.to got o >>= (λ _. writing at.sizes (advanced p.dest at.to) got (o + p.dest.size))) >>= (λ e. done (c, e))) >>= k in
           at_store a u d x l i (number (part got (o + at.unit * u) u)) onward
-          ∙ ap (λ (n : ℕ). cond (meets_due (Due.Write a u n) x) (judge onward d l (suc i)) (Judged.Departs i (Due.Write a u n))) (number_known file p.source.unit b read got r (o + at.unit * u) u)
-          ∙ ap (λ (j : Judged). cond (meets_due (Due.Write a u (source_number file 0 p.source.unit read (o + at.unit * u) u)) x) j (Judged.Departs i (Due.Write a u (source_number file 0 p.source.unit read (o + at.unit * u) u)))) (wrote_on at written read got c l (suc i))
+          ∙ ap (λ (n : ℕ). cond (meets_due (Some (Due.Write a u n)) x) (judge onward d l (suc i)) (departs i (Some (Due.Write a u n)))) (number_known file p.source.unit b read got r (o + at.unit * u) u)
+          ∙ ap (λ (j : Judged). cond (meets_due (Some (Due.Write a u (source_number file 0 p.source.unit read (o + at.unit * u) u))) x) j (departs i (Some (Due.Write a u (source_number file 0 p.source.unit read (o + at.unit * u) u))))) (wrote_on at written read got c l (suc i))
       stepping (Walk.Fetch left a) got c x l i r =
           at_fetch (wrap32 a) 1 d x l i _
-          ∙ ap (λ (j : Judged). cond (meets_due (Due.Read (wrap32 a) 1) x) j (Judged.Departs i (Due.Read (wrap32 a) 1))) (fetched-on left a got c l (suc i))
+          ∙ ap (λ (j : Judged). cond (meets_due (Some (Due.Read (wrap32 a) 1)) x) j (departs i (Some (Due.Read (wrap32 a) 1)))) (fetched-on left a got c l (suc i))
       stepping Walk.Over got c x l i r = refl
 
       -- ---- and what is known after it

@@ -1,7 +1,6 @@
 -- The code's judgement is the rules': a course over all the records of a file ends in the verdict of `captured`. Assumes nothing.
-use Rattle.std.proofs.Common.{◌≡◌, ℕ, zero, suc, ◌+◌, ◌/◌, ◌%◌, Bool, true, false, cond, not, eqb, List, [], ◌∷◌, length, sym, refl, ap, ◌∙◌, subst, append-nil, add-zero, add-suc, suc-add, zero-add, add-one}
+use Rattle.std.proofs.Common.{◌≡◌, ℕ, zero, suc, ◌+◌, ◌/◌, ◌%◌, Bool, true, false, cond, not, eqb, List, [], ◌∷◌, length, sym, refl, ap, ◌∙◌, subst, append-nil, add-zero, add-suc, suc-add, zero-add, add-one, Option, None, Some}
 use mathlib.Core.Bool.{false≢true}
-use mathlib.Core.Option.{Option, none, some}
 use borrow.Author.Tests.{eqb-false}
 use Rattle.rules.specs.State.{Device}
 use Rattle.rules.specs.declared.Tcd.{Tcd}
@@ -10,38 +9,37 @@ use Rattle.rules.specs.Bytes.{Bytes, part}
 use Rattle.rules.specs.Minor.{tcd_of, ssize, dsize, source_offset, dest_offset, minor_bytes, offset, transfer, minor_end, pass}
 use Rattle.rules.specs.Words.{count_of}
 use Rattle.rules.proofs.BytesLaws.{part-first}
-use Rattle.captures.specs.declared.Due.{Due}
 use Rattle.captures.specs.declared.Flaw.{Flaw}
-use Rattle.captures.specs.declared.Judged.{Judged}
-use Rattle.captures.specs.declared.Captured.{Captured}
-use Rattle.captures.specs.Capture.{Access, ended, judge, board, judged, flaw_of, access_of, records, is_cut, record_at, accesses_of, unless_flawed, captured}
+use Rattle.captures.specs.declared.Departure.{Departure}
+use Rattle.captures.specs.declared.Malformed.{Malformed}
+use Rattle.captures.specs.Capture.{Judged, departs, Captured, malformed, Access, ended, judge, board, judged, flaw_of, access_of, records, is_cut, record_at, accesses_of, unless_flawed, captured}
 use Rattle.captures.proofs.Tails.{gathered, fetches, pass_seen, end_seen}
 use Rattle.captures.proofs.Files.{value_fits_width}
 use Rattle.judge.specs.declared.Plan.{Plan}
 use Rattle.judge.specs.declared.Walk.{Walk}
 use Rattle.judge.specs.declared.Course.{Course}
-use Rattle.judge.specs.Walks.{Fitting, reads_of, plan_of, moves_from, reads_from, start_of, onward_of, due_of, seen_in, unless_unfit, looked_at, meets_due, walk_on, look_past, step_of, on_all, ended_at, unless_cut, verdict_of}
+use Rattle.judge.specs.Walks.{departed_at, Fitting, reads_of, plan_of, moves_from, reads_from, start_of, onward_of, due_of, seen_in, unless_unfit, looked_at, meets_due, walk_on, look_past, step_of, on_all, ended_at, unless_cut, verdict_of}
 use Rattle.judge.proofs.Follow.{access_in, left_of_lem, nothing_left, Ready, at_end, got_on, to_on, stepping, ready_on, starts, ready-first}
 
 -- ---- after the walk
 
 module _ (p : Plan) (file : List ℕ) where
-  stays_refused : (n k j : ℕ) (f : Flaw) → on_all p file 0 0 file n k (Course.Refused j f) ≡ Course.Refused j f
+  stays_refused : (n k : ℕ) (x : Malformed) → on_all p file 0 0 file n k (Course.Refused x) ≡ Course.Refused x
   unfolding on_all step_of
-  stays_refused zero k j f = refl
-  stays_refused (suc n) k j f = stays_refused n (k + 1) j f
+  stays_refused zero k x = refl
+  stays_refused (suc n) k x = stays_refused n (k + 1) x
 
   -- a malformed record is told, also after an access that departed
-  looks_past : (n k m j : ℕ) (due : Due) (c : Bool) → verdict_of p file 0 m c (on_all p file 0 0 file n k (Course.Departed j due)) ≡ unless_flawed file n k (unless_cut m c (Judged.Departs j due))
+  looks_past : (n k m : ℕ) (x : Departure) (c : Bool) → verdict_of p file 0 m c (on_all p file 0 0 file n k (Course.Departed x)) ≡ unless_flawed file n k (unless_cut m c (Some x))
   unfolding on_all step_of look_past looked_at unless_unfit unless_flawed verdict_of
-  looks_past zero k m j due c = refl
-  looks_past (suc n) k m j due c = rw (add-one k, zero-add k) (by (flaw_of (record_at file k)) (looks_past n (suc k) m j due c))
+  looks_past zero k m x c = refl
+  looks_past (suc n) k m x c = rw (add-one k, zero-add k) (by (flaw_of (record_at file k)) (looks_past n (suc k) m x c))
     where
-      by : (o : Option Flaw) → verdict_of p file 0 m c (on_all p file 0 0 file n (suc k) (Course.Departed j due)) ≡ unless_flawed file n (suc k) (unless_cut m c (Judged.Departs j due))
-          → verdict_of p file 0 m c (on_all p file 0 0 file n (suc k) (look_past k j due (unless_unfit o (seen_in (record_at file k)))))
-          ≡ elim o [ some f ↦ Captured.Refused k f | none ↦ unless_flawed file n (suc k) (unless_cut m c (Judged.Departs j due)) ]
-      by none h = h
-      by (some f) h = ap (verdict_of p file 0 m c) (stays_refused n (suc k) k f)
+      by : (o : Option Flaw) → verdict_of p file 0 m c (on_all p file 0 0 file n (suc k) (Course.Departed x)) ≡ unless_flawed file n (suc k) (unless_cut m c (Some x))
+          → verdict_of p file 0 m c (on_all p file 0 0 file n (suc k) (look_past k x (unless_unfit o (seen_in (record_at file k)))))
+          ≡ elim o [ Some f ↦ malformed k f | None ↦ unless_flawed file n (suc k) (unless_cut m c (Some x)) ]
+      by None h = h
+      by (Some f) h = ap (verdict_of p file 0 m c) (stays_refused n (suc k) (record { place = k; why = f }))
 
 -- ---- the walk
 
@@ -60,7 +58,7 @@ module _ {A : Type 0} (p : Plan) (f : Fitting p) (d : Device) (k : ℕ × ℕ �
         verdict_of p file 0 m cut (on_all p file 0 0 file n i (Course.Going w)) ≡ unless_flawed file n i (unless_cut m cut (rest_of w got c (accesses_of file n i) i))
 
     -- one record that is not malformed
-    goes : (n i m : ℕ) (cut : Bool) (w : Walk) (got : List ℕ) (c : ℕ) → Known-so i w got → flaw_of (record_at file i) ≡ none
+    goes : (n i m : ℕ) (cut : Bool) (w : Walk) (got : List ℕ) (c : ℕ) → Known-so i w got → flaw_of (record_at file i) ≡ None
         → ((w' : Walk) (got' : List ℕ) (c' : ℕ) → Known-so (suc i) w' got' → Follows n (suc i) m cut w' got' c')
         → verdict_of p file 0 m cut (on_all p file 0 0 file n (suc i) (walk_on p file 0 i w (seen_in (record_at file i))))
         ≡ unless_flawed file n (suc i) (unless_cut m cut (rest_of w got c (access_of (record_at file i) ∷ accesses_of file n (suc i)) i))
@@ -79,10 +77,10 @@ module _ {A : Type 0} (p : Plan) (f : Fitting p) (d : Device) (k : ℕ × ℕ �
         to = to_on p f d k ends file b w c
 
         by : (t : Bool) → meets_due (due_of file 0 p w) (seen_in (record_at file i)) ≡ t
-            → verdict_of p file 0 m cut (on_all p file 0 0 file n (suc i) (cond t (Course.Going next) (Course.Departed i (due_of file 0 p w))))
-            ≡ unless_flawed file n (suc i) (unless_cut m cut (cond t (rest_of next more to (accesses_of file n (suc i)) (suc i)) (Judged.Departs i (due_of file 0 p w))))
+            → verdict_of p file 0 m cut (on_all p file 0 0 file n (suc i) (cond t (Course.Going next) (departed_at i (due_of file 0 p w))))
+            ≡ unless_flawed file n (suc i) (unless_cut m cut (cond t (rest_of next more to (accesses_of file n (suc i)) (suc i)) (departs i (due_of file 0 p w))))
         by true q = h next more to (ready_on p f d k ends file b w got (seen_in (record_at file i)) i r refl (value_fits_width (record_at file i) clean) q)
-        by false q = looks_past p file n (suc i) m i (due_of file 0 p w) cut
+        by false q = looks_past p file n (suc i) m (record { at = i; due = due_of file 0 p w }) cut
 
     -- of n records from number i on, m in all
     pub follows : (n i m : ℕ) → m ≡ i + n → (cut : Bool) (w : Walk) (got : List ℕ) (c : ℕ) → Known-so i w got → Follows n i m cut w got c
@@ -95,9 +93,9 @@ module _ {A : Type 0} (p : Plan) (f : Fitting p) (d : Device) (k : ℕ × ℕ �
       where
         by : (o : Option Flaw) → flaw_of (record_at file i) ≡ o → ((w' : Walk) (got' : List ℕ) (c' : ℕ) → Known-so (suc i) w' got' → Follows n (suc i) m cut w' got' c')
             → verdict_of p file 0 m cut (on_all p file 0 0 file n (suc i) (step_of p file 0 i (Course.Going w) (unless_unfit o (seen_in (record_at file i)))))
-            ≡ elim o [ some f ↦ Captured.Refused i f | none ↦ unless_flawed file n (suc i) (unless_cut m cut (rest_of w got c (access_of (record_at file i) ∷ accesses_of file n (suc i)) i)) ]
-        by none q h = goes n i m cut w got c r q h
-        by (some f) q h = ap (verdict_of p file 0 m cut) (stays_refused p file n (suc i) i f)
+            ≡ elim o [ Some f ↦ malformed i f | None ↦ unless_flawed file n (suc i) (unless_cut m cut (rest_of w got c (access_of (record_at file i) ∷ accesses_of file n (suc i)) i)) ]
+        by None q h = goes n i m cut w got c r q h
+        by (Some f) q h = ap (verdict_of p file 0 m cut) (stays_refused p file n (suc i) (record { place = i; why = f }))
 
 -- ---- the whole
 

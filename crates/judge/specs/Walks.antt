@@ -1,22 +1,19 @@
 -- The judge as a walk: what is due at each access, and where the walk stands after it. These are the code's own functions, in its words; that a walk
 -- judges as the rules do is proved in proofs/Follow.antt. Assumes nothing.
-use Rattle.std.specs.Prelude.{◌≡◌, ℕ, zero, suc, ◌+◌, ◌-◌, ◌*◌, ◌/◌, ◌%◌, ◌^◌, ◌<◌, ◌≤◌, Bool, false, cond, not, ◌&&◌, ◌⊎◌, List, [], ◌∷◌, ◌==◌, nat_lt, slice_index}
-use Rattle.std.proofs.Math.Option.{Option, none, some}
+use Rattle.std.specs.Prelude.{Option, None, Some, Result, Ok, Err, ◌≡◌, ℕ, zero, suc, ◌+◌, ◌-◌, ◌*◌, ◌/◌, ◌%◌, ◌^◌, ◌<◌, ◌≤◌, Bool, false, cond, not, ◌&&◌, ◌⊎◌, List, [], ◌∷◌, ◌==◌, nat_lt, slice_index}
 use Rattle.rules.specs.declared.Tcd.{Tcd}
 use Rattle.rules.specs.Bytes.{number}
 use Rattle.rules.specs.Minor.{ESG, ssize, dsize, minor_bytes}
 use Rattle.rules.specs.Words.{has, size_of, unit_of, wholes, wrap32, signed, modulo_add, count_of}
 use Rattle.captures.specs.declared.Due.{Due}
 use Rattle.captures.specs.declared.Flaw.{Flaw}
-use Rattle.captures.specs.declared.Judged.{Judged}
-use Rattle.captures.specs.declared.Captured.{Captured}
-use Rattle.captures.specs.Capture.{kind_in, width_of, address_of, value_of, flaw_of, record_at}
+use Rattle.captures.specs.declared.Departure.{Departure}
+use Rattle.captures.specs.Capture.{Judged, allowed, departs, Captured, malformed, kind_in, width_of, address_of, value_of, flaw_of, record_at}
 use Rattle.judge.specs.declared.Side.{Side}
 use Rattle.judge.specs.declared.Plan.{Plan}
 use Rattle.judge.specs.declared.Place.{Place}
 use Rattle.judge.specs.declared.Walk.{Walk}
 use Rattle.judge.specs.declared.Seen.{Seen}
-use Rattle.judge.specs.declared.Record.{Record}
 use Rattle.judge.specs.declared.Course.{Course}
 
 -- ---- what a descriptor asks for
@@ -85,8 +82,8 @@ Sane Walk.Over = Unit {0}
 
 abbrev pub Safe : Course → Type 0
 Safe (Course.Going w) = Sane w
-Safe (Course.Departed i due) = Unit {0}
-Safe (Course.Refused i f) = Unit {0}
+Safe (Course.Departed x) = Unit {0}
+Safe (Course.Refused x) = Unit {0}
 
 -- ---- where a walk begins, and where it stands after an access
 
@@ -168,15 +165,15 @@ module _ (sources : List ℕ) (origin : ℕ) where
   unfoldable pub source_number : ℕ → ℕ → ℕ → ℕ → ℕ
   source_number unit read j n = number (source_bytes unit read j n)
 
-  unfoldable pub due_of : Plan → Walk → Due
-  due_of p (Walk.Move at) = Due.Read (unit_at p.source at.from at.unit) p.source.unit
-  due_of p (Walk.Lay at v) = Due.Write (unit_at p.source at.to at.unit) p.source.unit v
-  due_of p (Walk.Read at) = Due.Read (unit_at p.source at.from at.unit) p.source.unit
+  unfoldable pub due_of : Plan → Walk → Option Due
+  due_of p (Walk.Move at) = Some (Due.Read (unit_at p.source at.from at.unit) p.source.unit)
+  due_of p (Walk.Lay at v) = Some (Due.Write (unit_at p.source at.to at.unit) p.source.unit v)
+  due_of p (Walk.Read at) = Some (Due.Read (unit_at p.source at.from at.unit) p.source.unit)
   due_of p (Walk.Write at written read) =
-      Due.Write (unit_at p.dest at.to at.unit) p.dest.unit
-      (source_number p.source.unit read (place_of p.dest at written) p.dest.unit)
-  due_of p (Walk.Fetch left a) = Due.Read (wrap32 a) 1
-  due_of p Walk.Over = Due.Nothing
+      Some (Due.Write (unit_at p.dest at.to at.unit) p.dest.unit
+      (source_number p.source.unit read (place_of p.dest at written) p.dest.unit))
+  due_of p (Walk.Fetch left a) = Some (Due.Read (wrap32 a) 1)
+  due_of p Walk.Over = None
 
 -- the first record whose value the next write carries
 unfoldable pub origin_in : Plan → Walk → ℕ
@@ -189,52 +186,61 @@ origin_in p Walk.Over = 0
 
 unfoldable pub origin_of : Plan → Course → ℕ
 origin_of p (Course.Going w) = origin_in p w
-origin_of p (Course.Departed i due) = 0
-origin_of p (Course.Refused i f) = 0
+origin_of p (Course.Departed x) = 0
+origin_of p (Course.Refused x) = 0
 
 -- ---- records
 
 unfoldable pub seen_in : List ℕ → Seen
 seen_in r = record { read = (kind_in r == 4); address = address_of r; width = width_of r; value = value_of r }
 
+abbrev pub Record : Type 0
+Record = Result Seen Flaw
+
 unfoldable pub unless_unfit : Option Flaw → Seen → Record
-unless_unfit none x = Record.Fit x
-unless_unfit (some f) x = Record.Unfit f
+unless_unfit None x = Ok x
+unless_unfit (Some f) x = Err f
 
 unfoldable pub looked_at : List ℕ → Record
 looked_at r = unless_unfit (flaw_of r) (seen_in r)
 
-unfoldable pub meets_due : Due → Seen → Bool
-meets_due (Due.Read a n) x = x.read && a == x.address && n == x.width
-meets_due (Due.Write a n v) x = not x.read && a == x.address && n == x.width && v == x.value
-meets_due Due.Nothing x = false
+unfoldable pub meets_due : Option Due → Seen → Bool
+meets_due (Some (Due.Read a n)) x = x.read && a == x.address && n == x.width
+meets_due (Some (Due.Write a n v)) x = not x.read && a == x.address && n == x.width && v == x.value
+meets_due None x = false
 
 -- ---- the course of a judgement
 
+-- access number i departed, where this is due; record number i is malformed
+abbrev pub departed_at : ℕ → Option Due → Course
+departed_at i due = Course.Departed (record { at = i; due = due })
+
+abbrev pub refused_at : ℕ → Flaw → Course
+refused_at i f = Course.Refused (record { place = i; why = f })
+
 -- once an access departed, records are only looked at
-unfoldable pub look_past : ℕ → ℕ → Due → Record → Course
-look_past i j due (Record.Fit x) = Course.Departed j due
-look_past i j due (Record.Unfit f) = Course.Refused i f
+unfoldable pub look_past : ℕ → Departure → Record → Course
+look_past i x (Ok y) = Course.Departed x
+look_past i x (Err f) = refused_at i f
 
 unfoldable pub unless_cut : ℕ → Bool → Judged → Captured
-unless_cut n is_cut found = cond is_cut (Captured.Refused n Flaw.Cut) (Captured.Found found)
+unless_cut n is_cut found = cond is_cut (malformed n Flaw.Cut) (Ok found)
 
 -- a list of n accesses, where this is still due
-unfoldable pub ended_at : ℕ → Due → Judged
-ended_at n (Due.Read a w) = Judged.Departs n (Due.Read a w)
-ended_at n (Due.Write a w v) = Judged.Departs n (Due.Write a w v)
-ended_at n Due.Nothing = Judged.Allowed
+unfoldable pub ended_at : ℕ → Option Due → Judged
+ended_at n (Some due) = departs n (Some due)
+ended_at n None = allowed
 
 module _ (p : Plan) (sources : List ℕ) (origin : ℕ) where
   unfoldable pub walk_on : ℕ → Walk → Seen → Course
-  walk_on i w x = cond (meets_due (due_of sources origin p w) x) (Course.Going (onward_of p i w x.value)) (Course.Departed i (due_of sources origin p w))
+  walk_on i w x = cond (meets_due (due_of sources origin p w) x) (Course.Going (onward_of p i w x.value)) (departed_at i (due_of sources origin p w))
 
   -- after record number i
   unfoldable pub step_of : ℕ → Course → Record → Course
-  step_of i (Course.Going w) (Record.Fit x) = walk_on i w x
-  step_of i (Course.Going w) (Record.Unfit f) = Course.Refused i f
-  step_of i (Course.Departed j due) r = look_past i j due r
-  step_of i (Course.Refused j f) r = Course.Refused j f
+  step_of i (Course.Going w) (Ok x) = walk_on i w x
+  step_of i (Course.Going w) (Err f) = refused_at i f
+  step_of i (Course.Departed x) r = look_past i x r
+  step_of i (Course.Refused x) r = Course.Refused x
 
   -- after n records from place k on, which are numbered from `number` on
   unfoldable pub on_all : ℕ → List ℕ → ℕ → ℕ → Course → Course
@@ -244,5 +250,5 @@ module _ (p : Plan) (sources : List ℕ) (origin : ℕ) where
   -- n records were there, and then a cut one or none
   unfoldable pub verdict_of : ℕ → Bool → Course → Captured
   verdict_of n is_cut (Course.Going w) = unless_cut n is_cut (ended_at n (due_of sources origin p w))
-  verdict_of n is_cut (Course.Departed j due) = unless_cut n is_cut (Judged.Departs j due)
-  verdict_of n is_cut (Course.Refused j f) = Captured.Refused j f
+  verdict_of n is_cut (Course.Departed x) = unless_cut n is_cut (Some x)
+  verdict_of n is_cut (Course.Refused x) = Err x

@@ -3,7 +3,7 @@
 // is the rules' judge (crate `captures`) is said once, at `captured`. Quoted words are the documents'.
 #![tactic(auto)]
 
-ghost use Rattle.std.specs.Prelude.{◌≡◌, ◌+◌, ◌*◌, ◌^◌, ◌<◌, ◌≤◌, true, ◌&&◌, ◌||◌, length, ◌==◌, nat_lt, slice_index};
+ghost use Rattle.std.specs.Prelude.{Some, ◌≡◌, ◌+◌, ◌*◌, ◌^◌, ◌<◌, ◌≤◌, true, ◌&&◌, ◌||◌, length, ◌==◌, nat_lt, slice_index};
 ghost use Rattle.rules.specs.Bytes.{part};
 ghost use Rattle.rules.specs.Minor.{ESG, ssize};
 ghost use Rattle.rules.specs.Words.{has, count_of};
@@ -14,10 +14,13 @@ ghost use Rattle.judge.specs.declared.Walk.TheVariants as Walk;
 ghost use Rattle.judge.specs.declared.Course.TheVariants as Course;
 ghost use Rattle.judge.specs.Walks.{a_unit, Parted, Narrow, Fitting, Within, Sane, Safe, side_of, reads_of, plan_of, place_at, next_unit, advanced, fetch_on, ending_of, moves_from, writes_from, reads_from, start_of, move_on, read_on, write_on, onward_of, unit_at, source_byte, source_number, place_of, due_of, origin_in, looked_at, meets_due, walk_on, look_past, step_of, origin_of, on_all, ended_at, unless_cut, verdict_of};
 
-use captures::{Captured, Due, Flaw, Judged};
+use captures::{Captured, Departure, Due, Flaw, Judged, Malformed};
 use rules::Tcd;
 
 // ---- what a descriptor asks for
+
+// `Narrow`, `Fitting`, `Within` and `Sane` stay clauses, and no ghost fields: the definitions of specs/Walks.antt build every side, plan and place, so that
+// each would carry a proof, and `next_unit` builds a place also where `Within` fails, of one with nothing left.
 
 // One side of a transfer, source or destination: its size in bytes, the bytes of a unit, how many more units a size has after its first, what an
 // address moves on by after each size, and with which modulo.
@@ -45,10 +48,7 @@ fn unit_of(size: u32) -> u32
     requires { Sized size }
     ensures { Parted size result }
 {
-    if size < 4 {
-        return size;
-    }
-    4
+    size.min(4)
 }
 
 // One half of `attr`, and the offset: a half has a size code in its low 3 bits and a modulo in the 5 above them.
@@ -78,10 +78,7 @@ pub fn reads_of(cr: u32, t: Tcd) -> u32
 fn gathers(t: Tcd) -> bool
     ensures { result ≡ (count_of t.citer == 1) && has t.csr ESG }
 {
-    if words::count_of(t.citer) != 1 {
-        return false;
-    }
-    words::has_bit(t.csr as u64, 4)
+    words::count_of(t.citer) == 1 && words::has_bit(t.csr as u64, 4)
 }
 
 pub fn plan_of(cr: u32, t: Tcd) -> Plan
@@ -126,6 +123,7 @@ pub enum Walk {
 }
 
 // "Only the step by `soff` or `doff` after each whole size uses modulo."
+#[tactic(auto, unfolding(crate::specs::Walks::advanced))]
 fn advanced(side: Side, a: u32) -> u32
     requires { Narrow side }
     ensures { result ≡ advanced side a }
@@ -133,6 +131,7 @@ fn advanced(side: Side, a: u32) -> u32
     words::modulo_add(a, side.offset, side.modulo)
 }
 
+#[tactic(auto, unfolding(crate::specs::Walks::place_at))]
 fn place_at(side: Side, sizes: u32, from: u32, to: u32) -> Place
     requires { Narrow side }
     ensures { (result ≡ place_at side sizes from to) × Within result × (result.sizes ≡ sizes) }
@@ -146,20 +145,20 @@ fn place_at(side: Side, sizes: u32, from: u32, to: u32) -> Place
     }
 }
 
+#[tactic(auto, unfolding(crate::specs::Walks::next_unit))]
 fn next_unit(at: Place) -> Place
     requires { Within at × (0 < at.left) }
     ensures { (result ≡ next_unit at) × Within result × (result.sizes ≡ at.sizes) }
 {
     Place {
-        sizes: at.sizes,
         left: at.left - 1,
         unit: at.unit + 1,
-        from: at.from,
-        to: at.to,
+        ..at
     }
 }
 
 // After the transfer.
+#[tactic(auto, unfolding(crate::specs::Walks::ending_of))]
 fn ending(p: Plan) -> Walk
     ensures { (result ≡ ending_of p) × Sane result }
 {
@@ -171,6 +170,7 @@ fn ending(p: Plan) -> Walk
 }
 
 // With so many whole sizes left: "read and write unit by unit".
+#[tactic(auto, unfolding(crate::specs::Walks::moves_from))]
 fn moves_from(p: Plan, sizes: u32, from: u32, to: u32) -> Walk
     requires { Fitting p }
     ensures { (result ≡ moves_from p sizes from to) × Sane result }
@@ -182,6 +182,7 @@ fn moves_from(p: Plan, sizes: u32, from: u32, to: u32) -> Walk
 }
 
 // "Then write only whole destination sizes."
+#[tactic(auto, unfolding(crate::specs::Walks::writes_from))]
 fn writes_from(p: Plan, sizes: u32, written: u32, read: u64, from: u32, to: u32) -> Walk
     requires { Fitting p × (written + sizes ≤ 2 ^ 32) }
     ensures { (result ≡ writes_from p sizes written read from to) × Sane result }
@@ -193,6 +194,7 @@ fn writes_from(p: Plan, sizes: u32, written: u32, read: u64, from: u32, to: u32)
 }
 
 // "Read all first."
+#[tactic(auto, unfolding(crate::specs::Walks::reads_from))]
 fn reads_from(p: Plan, sizes: u32, read: u64, from: u32, to: u32) -> Walk
     requires { Fitting p }
     ensures { (result ≡ reads_from p sizes read from to) × Sane result }
@@ -219,6 +221,7 @@ pub fn start(p: Plan, cr: u32, t: Tcd) -> Walk
 }
 
 // After a unit was moved, read, or written.
+#[tactic(auto, unfolding(crate::specs::Walks::move_on))]
 fn move_on(p: Plan, at: Place) -> Walk
     requires { Fitting p × Within at }
     ensures { (result ≡ move_on p at) × Sane result }
@@ -234,6 +237,7 @@ fn move_on(p: Plan, at: Place) -> Walk
     Walk::Move(next_unit(at))
 }
 
+#[tactic(auto, unfolding(crate::specs::Walks::read_on))]
 fn read_on(p: Plan, i: u64, at: Place) -> Walk
     requires { Fitting p × Within at × (i < 2 ^ 63) }
     ensures { (result ≡ read_on p i at) × Sane result }
@@ -244,6 +248,7 @@ fn read_on(p: Plan, i: u64, at: Place) -> Walk
     Walk::Read(next_unit(at))
 }
 
+#[tactic(auto, unfolding(crate::specs::Walks::write_on, crate::specs::Walks::writes_from))]
 fn write_on(p: Plan, at: Place, written: u32, read: u64) -> Walk
     requires { Fitting p × Within at × (written + at.sizes < 2 ^ 32) }
     ensures { (result ≡ write_on p at written read) × Sane result }
@@ -259,6 +264,7 @@ fn write_on(p: Plan, at: Place, written: u32, read: u64) -> Walk
 }
 
 // After a byte was fetched.
+#[tactic(auto, unfolding(crate::specs::Walks::fetch_on))]
 fn fetch_on(left: u32, a: u64) -> Walk
     requires { a + left < 2 ^ 33 }
     ensures { (result ≡ fetch_on left a) × Sane result }
@@ -270,6 +276,7 @@ fn fetch_on(left: u32, a: u64) -> Walk
 }
 
 // Where a walk stands after access number `i`, which had value `v`.
+#[tactic(auto, unfolding(crate::specs::Walks::onward_of))]
 fn onward(p: Plan, i: u64, w: Walk, v: u32) -> Walk
     requires { Fitting p × Sane w × (i < 2 ^ 63) }
     ensures { (result ≡ onward_of p i w v) × Sane result }
@@ -287,70 +294,21 @@ fn onward(p: Plan, i: u64, w: Walk, v: u32) -> Walk
 // ---- what is due
 
 // "A size moves in units .. at address + k x unit, plainly."
+#[tactic(auto, unfolding(crate::specs::Walks::unit_at, rules::specs::Words::wrap32))]
 fn unit_at(side: Side, a: u32, k: u32) -> u32
     requires { Narrow side × (k < 8) }
     ensures { result ≡ unit_at side a k }
 {
-    std::num::wrapping_add_u32(a, k * side.unit)
-}
-
-// Byte `j` of what was read, from the records at hand: 0 past the last read, and outside them.
-fn source_byte(sources: &[u8], origin: u64, unit: u32, read: u64, j: u64) -> u8
-    requires { a_unit unit }
-    ensures { result ≡ source_byte sources.now origin unit read j }
-{
-    let number = j / unit as u64;
-    if read <= number {
-        return 0;
-    }
-    if number < origin {
-        return 0;
-    }
-    byte_at(sources, number - origin, 16 - unit as u64 + j % unit as u64)
+    a.wrapping_add(k * side.unit)
 }
 
 // Byte `b` of a record, or 0 where there is none.
-fn byte_at(sources: &[u8], place: u64, b: u64) -> u8
+fn byte_at(records: &[u8], place: u64, b: u64) -> u8
     requires { b < 16 }
-    ensures { result ≡ slice_index sources.now (16 * place + b) }
+    ensures { result ≡ slice_index records.now (16 * place + b) }
 {
-    let here = sources.len() as u64;
-    if here / 16 < place {
-        return 0;
-    }
-    let at = place * 16 + b;
-    if at < here {
-        return sources[at as usize];
-    }
-    0
-}
-
-// The number that 2, 4, or `n` bytes of it from `j` on spell.
-fn source2(sources: &[u8], origin: u64, unit: u32, read: u64, j: u64) -> u32
-    requires { a_unit unit × (j < 2 ^ 63) }
-    ensures { (result ≡ source_number sources.now origin unit read j 2) × (result < 2 ^ 16) }
-{
-    let high = source_byte(sources, origin, unit, read, j) as u32;
-    high * 0x100 + source_byte(sources, origin, unit, read, j + 1) as u32
-}
-
-fn source4(sources: &[u8], origin: u64, unit: u32, read: u64, j: u64) -> u32
-    requires { a_unit unit × (j < 2 ^ 62) }
-    ensures { result ≡ source_number sources.now origin unit read j 4 }
-{
-    let high = source2(sources, origin, unit, read, j);
-    high * 0x10000 + source2(sources, origin, unit, read, j + 2)
-}
-
-fn source_number(sources: &[u8], origin: u64, unit: u32, read: u64, j: u64, n: u32) -> u32
-    requires { a_unit unit × a_unit n × (j < 2 ^ 62) }
-    ensures { result ≡ source_number sources.now origin unit read j n }
-{
-    match n {
-        1 => source_byte(sources, origin, unit, read, j) as u32,
-        2 => source2(sources, origin, unit, read, j),
-        _ => source4(sources, origin, unit, read, j),
-    }
+    let at = place.saturating_mul(16).saturating_add(b);
+    records.get(at as usize).copied().unwrap_or(0)
 }
 
 // Where a unit to be written stands in what was read.
@@ -361,49 +319,82 @@ fn place_of(side: Side, at: Place, written: u32) -> u64
     written as u64 * side.size as u64 + (at.unit * side.unit) as u64
 }
 
-fn write_due(p: Plan, at: Place, written: u32, read: u64, sources: &[u8], origin: u64) -> Due
-    requires { Fitting p × Within at }
-    ensures { result ≡ due_of sources.now origin p (Walk.Write at written read) }
-{
-    let side = p.dest;
-    let j = place_of(side, at, written);
-    let a = unit_at(side, at.to, at.unit);
-    let v = source_number(sources, origin, p.source.unit, read, j, side.unit);
-    Due::Write(a, side.unit, v)
+// A plan, and the values that were read under it: they stand in the records at hand, of which the first has number `origin`.
+#[derive(Clone, Copy)]
+struct Judge<'a> {
+    plan: Plan,
+    sources: &'a [u8],
+    origin: u64,
 }
 
-fn due(p: Plan, w: Walk, sources: &[u8], origin: u64) -> Due
-    requires { Fitting p × Sane w }
-    ensures { result ≡ due_of sources.now origin p w }
-{
-    let side = p.source;
-    match w {
-        Walk::Move(at) => Due::Read(unit_at(side, at.from, at.unit), side.unit),
-        Walk::Lay(at, v) => Due::Write(unit_at(side, at.to, at.unit), side.unit, v),
-        Walk::Read(at) => Due::Read(unit_at(side, at.from, at.unit), side.unit),
-        Walk::Write(at, written, read) => write_due(p, at, written, read, sources, origin),
-        Walk::Fetch(_, a) => Due::Read((a % 0x100000000) as u32, 1),
-        Walk::Over => Due::Nothing,
+impl Judge<'_> {
+    // Byte `j` of what was read, from the records at hand: 0 past the last read, and outside them.
+    fn source_byte(&self, read: u64, j: u64) -> u8
+        requires { Fitting self.now.plan }
+        ensures { result ≡ source_byte self.now.sources.now self.now.origin self.now.plan.source.unit read j }
+    {
+        let unit = self.plan.source.unit as u64;
+        let number = j / unit;
+        if read <= number || number < self.origin {
+            return 0;
+        }
+        byte_at(self.sources, number - self.origin, 16 - unit + j % unit)
+    }
+
+    // The number that `n` bytes of it from `j` on spell.
+    fn source_number(&self, read: u64, j: u64, n: u32) -> u32
+        requires { Fitting self.now.plan × (n ≤ 4) × (j < 2 ^ 62) }
+        ensures { result ≡ source_number self.now.sources.now self.now.origin self.now.plan.source.unit read j n }
+    {
+        let mut v = 0;
+        for k in 0..n {
+            v = v * 0x100 + self.source_byte(read, j + k as u64) as u32;
+        }
+        v
+    }
+
+    #[tactic(auto, unfolding(crate::specs::Walks::due_of))]
+    fn write_due(&self, at: Place, written: u32, read: u64) -> Due
+        requires { Fitting self.now.plan × Within at }
+        ensures { Some result ≡ due_of self.now.sources.now self.now.origin self.now.plan (Walk.Write at written read) }
+    {
+        let side = self.plan.dest;
+        let j = place_of(side, at, written);
+        let a = unit_at(side, at.to, at.unit);
+        Due::Write(a, side.unit, self.source_number(read, j, side.unit))
+    }
+
+    #[tactic(auto, unfolding(crate::specs::Walks::due_of, rules::specs::Words::wrap32))]
+    fn due(&self, w: Walk) -> Option<Due>
+        requires { Fitting self.now.plan × Sane w }
+        ensures { result ≡ due_of self.now.sources.now self.now.origin self.now.plan w }
+    {
+        let side = self.plan.source;
+        match w {
+            Walk::Move(at) => Some(Due::Read(unit_at(side, at.from, at.unit), side.unit)),
+            Walk::Lay(at, v) => Some(Due::Write(unit_at(side, at.to, at.unit), side.unit, v)),
+            Walk::Read(at) => Some(Due::Read(unit_at(side, at.from, at.unit), side.unit)),
+            Walk::Write(at, written, read) => Some(self.write_due(at, written, read)),
+            Walk::Fetch(_, a) => Some(Due::Read((a % 0x100000000) as u32, 1)),
+            Walk::Over => None,
+        }
     }
 }
 
+#[tactic(auto, unfolding(crate::specs::Walks::origin_in))]
 fn origin_in(p: Plan, w: Walk) -> u64
     requires { Fitting p × Sane w }
     ensures { (result ≡ origin_in p w) × (result < 2 ^ 40) }
 {
     match w {
-        Walk::Move(_) => 0,
-        Walk::Lay(_, _) => 0,
-        Walk::Read(_) => 0,
         Walk::Write(at, written, _) => place_of(p.dest, at, written) / p.source.unit as u64,
-        Walk::Fetch(_, _) => 0,
-        Walk::Over => 0,
+        Walk::Move(_) | Walk::Lay(_, _) | Walk::Read(_) | Walk::Fetch(_, _) | Walk::Over => 0,
     }
 }
 
 // ---- records
 
-// An access as a record has it; and a record, which holds one or is malformed.
+// An access as a record has it.
 #[derive(Clone, Copy)]
 pub struct Seen {
     pub read: bool,
@@ -412,32 +403,20 @@ pub struct Seen {
     pub value: u32,
 }
 
-#[derive(Clone, Copy)]
-pub enum Record {
-    Fit(Seen),
-    Unfit(Flaw),
-}
+// What a record holds, or why it is malformed.
+pub type Record = Result<Seen, Flaw>;
 
 // 4 a read, 5 a write.
 fn is_kind(n: u8) -> bool
     ensures { result ≡ (n == 4 || n == 5) }
 {
-    match n {
-        4 => true,
-        5 => true,
-        _ => false,
-    }
+    matches!(n, 4 | 5)
 }
 
 fn is_width(n: u8) -> bool
     ensures { result ≡ (n == 1 || n == 2 || n == 4) }
 {
-    match n {
-        1 => true,
-        2 => true,
-        4 => true,
-        _ => false,
-    }
+    matches!(n, 1 | 2 | 4)
 }
 
 // Whether a value is no wider than its width.
@@ -458,21 +437,21 @@ pub fn record_at(records: &[u8], at: usize) -> Record
     ensures { result ≡ looked_at (part records.now at 16) }
 {
     if words::get2(records, at) != 0x4A52 {
-        return Record::Unfit(Flaw::Mark);
+        return Err(Flaw::Mark);
     }
     let kind = words::get1(records, at + 2);
     if !is_kind(kind) {
-        return Record::Unfit(Flaw::Kind);
+        return Err(Flaw::Kind);
     }
     let width = words::get1(records, at + 3);
     if !is_width(width) {
-        return Record::Unfit(Flaw::Width);
+        return Err(Flaw::Width);
     }
     let value = words::get8(records, at + 8);
     if !is_narrow(value, width) {
-        return Record::Unfit(Flaw::Value);
+        return Err(Flaw::Value);
     }
-    Record::Fit(Seen {
+    Ok(Seen {
         read: kind == 4,
         address: words::get4(records, at + 4),
         width: width as u32,
@@ -480,41 +459,15 @@ pub fn record_at(records: &[u8], at: usize) -> Record
     })
 }
 
-fn reads_as(x: Seen, a: u32, n: u32) -> bool
-    ensures { result ≡ meets_due (Due.Read a n) x }
-{
-    if !x.read {
-        return false;
-    }
-    if a != x.address {
-        return false;
-    }
-    n == x.width
-}
-
-fn writes_as(x: Seen, a: u32, n: u32, v: u32) -> bool
-    ensures { result ≡ meets_due (Due.Write a n v) x }
-{
-    if x.read {
-        return false;
-    }
-    if a != x.address {
-        return false;
-    }
-    if n != x.width {
-        return false;
-    }
-    v == x.value
-}
-
 // Whether an access is the one that is due.
-fn meets_due(due: Due, x: Seen) -> bool
+#[tactic(auto, unfolding(crate::specs::Walks::meets_due))]
+fn meets_due(due: Option<Due>, x: Seen) -> bool
     ensures { result ≡ meets_due due x }
 {
     match due {
-        Due::Read(a, n) => reads_as(x, a, n),
-        Due::Write(a, n, v) => writes_as(x, a, n, v),
-        Due::Nothing => false,
+        Some(Due::Read(a, n)) => x.read && a == x.address && n == x.width,
+        Some(Due::Write(a, n, v)) => { !x.read && a == x.address && n == x.width && v == x.value }
+        None => false,
     }
 }
 
@@ -524,65 +477,57 @@ fn meets_due(due: Due, x: Seen) -> bool
 #[derive(Clone, Copy)]
 pub enum Course {
     Going(Walk),
-    Departed(u64, Due),
-    Refused(u64, Flaw),
+    Departed(Departure),
+    Refused(Malformed),
 }
 
-fn walk_on(p: Plan, sources: &[u8], origin: u64, i: u64, w: Walk, x: Seen) -> Course
-    requires { Fitting p × Sane w × (i < 2 ^ 63) }
-    ensures { (result ≡ walk_on p sources.now origin i w x) × Safe result }
-{
-    let asked = due(p, w, sources, origin);
-    if !meets_due(asked, x) {
-        return Course::Departed(i, asked);
+impl Judge<'_> {
+    #[tactic(auto, unfolding(crate::specs::Walks::walk_on))]
+    fn walk_on(&self, i: u64, w: Walk, x: Seen) -> Course
+        requires { Fitting self.now.plan × Sane w × (i < 2 ^ 63) }
+        ensures { (result ≡ walk_on self.now.plan self.now.sources.now self.now.origin i w x) × Safe result }
+    {
+        let due = self.due(w);
+        if meets_due(due, x) {
+            Course::Going(onward(self.plan, i, w, x.value))
+        } else {
+            Course::Departed(Departure { at: i, due })
+        }
     }
-    Course::Going(onward(p, i, w, x.value))
-}
 
-// After record number `i`: of a walk; of a course that departed, where records are only looked at; of any.
-fn walk_past(p: Plan, sources: &[u8], origin: u64, i: u64, w: Walk, r: Record) -> Course
-    requires { Fitting p × Sane w × (i < 2 ^ 63) }
-    ensures { (result ≡ step_of p sources.now origin i (Course.Going w) r) × Safe result }
-{
-    match r {
-        Record::Fit(x) => walk_on(p, sources, origin, i, w, x),
-        Record::Unfit(f) => Course::Refused(i, f),
-    }
-}
-
-fn look_past(i: u64, j: u64, asked: Due, r: Record) -> Course
-    ensures { (result ≡ look_past i j asked r) × Safe result }
-{
-    match r {
-        Record::Fit(_) => Course::Departed(j, asked),
-        Record::Unfit(f) => Course::Refused(i, f),
-    }
-}
-
-fn step(p: Plan, sources: &[u8], origin: u64, i: u64, c: Course, r: Record) -> Course
-    requires { Fitting p × Safe c × (i < 2 ^ 63) }
-    ensures { (result ≡ step_of p sources.now origin i c r) × Safe result }
-{
-    match c {
-        Course::Going(w) => walk_past(p, sources, origin, i, w, r),
-        Course::Departed(j, asked) => look_past(i, j, asked, r),
-        Course::Refused(j, f) => Course::Refused(j, f),
+    // After record number `i`. Once an access departed, records are only looked at.
+    #[tactic(auto, unfolding(crate::specs::Walks::step_of, crate::specs::Walks::look_past))]
+    fn step(&self, i: u64, c: Course, r: Record) -> Course
+        requires { Fitting self.now.plan × Safe c × (i < 2 ^ 63) }
+        ensures { (result ≡ step_of self.now.plan self.now.sources.now self.now.origin i c r) × Safe result }
+    {
+        match c {
+            Course::Going(w) => match r {
+                Ok(x) => self.walk_on(i, w, x),
+                Err(why) => Course::Refused(Malformed { place: i, why }),
+            },
+            Course::Departed(first) => match r {
+                Ok(_) => Course::Departed(first),
+                Err(why) => Course::Refused(Malformed { place: i, why }),
+            },
+            Course::Refused(first) => Course::Refused(first),
+        }
     }
 }
 
 // The first record whose value the next write carries; 0 where writes have not begun.
+#[tactic(auto, unfolding(crate::specs::Walks::origin_of))]
 pub fn origin_of(p: Plan, c: Course) -> u64
     requires { Fitting p × Safe c }
     ensures { (result ≡ origin_of p c) × (result < 2 ^ 40) }
 {
     match c {
         Course::Going(w) => origin_in(p, w),
-        Course::Departed(_, _) => 0,
-        Course::Refused(_, _) => 0,
+        Course::Departed(_) | Course::Refused(_) => 0,
     }
 }
 
-// After `count` records, of which the first has this number.
+// After `count` records, of which the first has this number. The count stays beside the records, as whoever calls has a buffer that is filled in part.
 pub fn on_all(
     p: Plan,
     sources: &[u8],
@@ -595,46 +540,59 @@ pub fn on_all(
     requires { Fitting p × Safe begun × (count * 16 ≤ length records.now) × (number < 2 ^ 62) }
     ensures { (result ≡ on_all p sources.now origin number records.now count 0 begun) × Safe result }
 {
+    let judge = Judge {
+        plan: p,
+        sources,
+        origin,
+    };
     let mut c = begun;
-    let mut k = 0;
-    while k < count {
-        let r = record_at(records, 16 * k);
-        c = step(p, sources, origin, number + k as u64, c, r);
-        k += 1;
+    for k in 0..count {
+        c = judge.step(number + k as u64, c, record_at(records, 16 * k));
     }
     c
 }
 
-fn ended_at(n: u64, asked: Due) -> Judged
-    ensures { result ≡ ended_at n asked }
+// A list that ends where this is still due: short, if anything is.
+#[tactic(auto, unfolding(crate::specs::Walks::ended_at))]
+fn ended_at(at: u64, due: Option<Due>) -> Judged
+    ensures { result ≡ ended_at at due }
 {
-    match asked {
-        Due::Read(a, w) => Judged::Departs(n, Due::Read(a, w)),
-        Due::Write(a, w, v) => Judged::Departs(n, Due::Write(a, w, v)),
-        Due::Nothing => Judged::Allowed,
-    }
+    Some(Departure {
+        at,
+        due: Some(due?),
+    })
 }
 
 // "22, a malformed or cut record, with its place and no verdict."
+#[tactic(auto, unfolding(crate::specs::Walks::unless_cut))]
 fn unless_cut(n: u64, is_cut: bool, found: Judged) -> Captured
     ensures { result ≡ unless_cut n is_cut found }
 {
     if is_cut {
-        Captured::Refused(n, Flaw::Cut)
+        Err(Malformed {
+            place: n,
+            why: Flaw::Cut,
+        })
     } else {
-        Captured::Found(found)
+        Ok(found)
     }
 }
 
 // What a course came to, where `n` records were there and then a cut one or none.
+#[tactic(auto, unfolding(crate::specs::Walks::verdict_of))]
 pub fn verdict(p: Plan, sources: &[u8], origin: u64, n: u64, is_cut: bool, c: Course) -> Captured
     requires { Fitting p × Safe c }
     ensures { result ≡ verdict_of p sources.now origin n is_cut c }
 {
+    let judge = Judge {
+        plan: p,
+        sources,
+        origin,
+    };
     match c {
-        Course::Going(w) => unless_cut(n, is_cut, ended_at(n, due(p, w, sources, origin))),
-        Course::Departed(j, asked) => unless_cut(n, is_cut, Judged::Departs(j, asked)),
-        Course::Refused(j, f) => Captured::Refused(j, f),
+        Course::Going(w) => unless_cut(n, is_cut, ended_at(n, judge.due(w))),
+        Course::Departed(first) => unless_cut(n, is_cut, Some(first)),
+        Course::Refused(first) => Err(first),
     }
 }
 

@@ -1,18 +1,21 @@
 // A file read a piece at a time: as much as is there, or until a read fails.
 #![tactic(auto)]
 
-ghost use Rattle.std.specs.Prelude.{◌≡◌, ◌+◌, ◌≤◌, ◌<◌, false, length, take, drop};
+ghost use Rattle.std.specs.Prelude.{IfOk, IfErr, [], ◌≡◌, ◌+◌, ◌≤◌, ◌<◌, length, take, drop};
 ghost use Rattle.std.specs.Io.KnownBytes.{Consumes, IsAtEnd};
+ghost use Rattle.pieces.specs.Come.{come};
 
 use std::io::{ErrorKind, Read, Seek, SeekFrom, Write};
 use std::rt::Files;
 use std::{fs, io};
 
-// What reading came to: how many bytes, and whether it failed after them.
-#[derive(Drop)]
-pub struct Got {
-    pub n: usize,
-    pub failed: bool,
+// No file has more bytes than 2^63, nor more records of 16 than this. It is what ends a loop over pieces for the proof: nothing says that a file ends.
+pub const RECORDS: u64 = 0x800000000000000;
+
+// Reading failed, after so many bytes.
+#[derive(Clone, Copy)]
+pub struct Failed {
+    pub after: usize,
 }
 
 // Opens the file of this name for reading. A name is bytes, and one that is no UTF-8 text names no file that can be opened.
@@ -40,45 +43,44 @@ fn read_more<F: Read, E: Write>(
     path: &[u8],
     buf: &mut [u8],
     have: usize,
-) -> Got
+) -> Result<usize, Failed>
     requires { have ≤ length buf.old }
-    ensures within { have + result.n ≤ length buf.old }
+    ensures within { IfOk result (λ n. have + n ≤ length buf.old) }
     ensures front { take have buf.new ≡ take have buf.old }
-    ensures bytes { Consumes (F.remaining file.old) (F.remaining file.new) (take result.n (drop have buf.new)) }
-    ensures end { result.failed ≡ false → result.n ≡ 0 → have < length buf.old → IsAtEnd (F.remaining file.new) }
+    ensures bytes { IfOk result (λ n. Consumes (F.remaining file.old) (F.remaining file.new) (take n (drop have buf.new))) }
+    ensures none { IfErr result (λ x. (x.after ≡ have) × Consumes (F.remaining file.old) (F.remaining file.new) []) }
+    ensures end { IfOk result (λ n. n ≡ 0 → have < length buf.old → IsAtEnd (F.remaining file.new)) }
 {
     match file.read(&mut buf[have..]) {
-        Ok(n) => Got { n, failed: false },
+        Ok(n) => Ok(n),
         Err(why) => {
             fail(notes, path, why);
-            Got { n: 0, failed: true }
+            Err(Failed { after: have })
         }
     }
 }
 
 // Reads until the piece is full, the file ends or a read fails. The bytes are the file's next ones, and all of them where there is room left and
 // no read failed.
-pub fn fill<F: Read, E: Write>(file: &mut F, notes: &mut E, path: &[u8], buf: &mut [u8]) -> Got
-    ensures within { result.n ≤ length buf.old }
-    ensures bytes { Consumes (F.remaining file.old) (F.remaining file.new) (take result.n buf.new) }
-    ensures end { result.failed ≡ false → result.n < length buf.old → IsAtEnd (F.remaining file.new) }
+pub fn fill<F: Read, E: Write>(
+    file: &mut F,
+    notes: &mut E,
+    path: &[u8],
+    buf: &mut [u8],
+) -> Result<usize, Failed>
+    ensures within { come result ≤ length buf.old }
+    ensures bytes { Consumes (F.remaining file.old) (F.remaining file.new) (take (come result) buf.new) }
+    ensures end { IfOk result (λ n. n < length buf.old → IsAtEnd (F.remaining file.new)) }
 {
     let mut have = 0;
     while have < buf.len() {
-        let more = read_more(file, notes, path, buf, have);
-        let n = more.n;
+        let n = read_more(file, notes, path, buf, have)?;
         if n == 0 {
-            return Got {
-                n: have,
-                failed: more.failed,
-            };
+            return Ok(have);
         }
         have += n;
     }
-    Got {
-        n: have,
-        failed: false,
-    }
+    Ok(have)
 }
 
 // Whether the file now stands at this place; why it does not goes to `notes`.
@@ -99,12 +101,13 @@ pub fn fill_from<F: Read + Seek, E: Write>(
     path: &[u8],
     place: i64,
     buf: &mut [u8],
-) -> Got
-    ensures within { result.n ≤ length buf.old }
-    ensures end { result.failed ≡ false → result.n < length buf.old → IsAtEnd (F.remaining file.new) }
+) -> Result<usize, Failed>
+    ensures within { come result ≤ length buf.old }
+    ensures end { IfOk result (λ n. n < length buf.old → IsAtEnd (F.remaining file.new)) }
 {
-    if !seek_to(file, notes, path, place) {
-        return Got { n: 0, failed: true };
+    if seek_to(file, notes, path, place) {
+        fill(file, notes, path, buf)
+    } else {
+        Err(Failed { after: 0 })
     }
-    fill(file, notes, path, buf)
 }

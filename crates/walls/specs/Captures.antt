@@ -1,10 +1,8 @@
 -- Captures (document 02, [2]) of one word that is moved, and what wrong judges would say of them. Assumes nothing.
-use Rattle.std.specs.Prelude.{List, [], ◌∷◌, ◌++◌, ◌≡◌, ℕ, zero, suc}
+use Rattle.std.specs.Prelude.{List, [], ◌∷◌, ◌++◌, ◌≡◌, ℕ, zero, suc, Ok}
 use Rattle.rules.specs.Carry.{line}
 use Rattle.rules.specs.Minor.{tcd_bytes}
-use Rattle.captures.specs.declared.Judged.TheVariants as Judged
-use Rattle.captures.specs.declared.Captured.{Captured}
-use Rattle.captures.specs.Capture.{Access, reads, writes}
+use Rattle.captures.specs.Capture.{allowed, Captured, Access, reads, writes}
 
 -- from 80000000 to 80000004: sizes, byte count, count, csr; the next descriptor is at 90000000
 unfoldable pub descriptor : ℕ → ℕ → ℕ → ℕ → List ℕ
@@ -46,10 +44,10 @@ addresses (writes a n v ∷ l) = a ∷ addresses l
 
 module _ (program : List ℕ → ℕ → List ℕ → Captured) where
   unfoldable pub AcceptsAlways : Type 0
-  AcceptsAlways = (d : List ℕ) (cr : ℕ) (l : List Access) → program d cr (file_of l) ≡ Captured.Found Judged.Allowed
+  AcceptsAlways = (d : List ℕ) (cr : ℕ) (l : List Access) → program d cr (file_of l) ≡ Ok allowed
 
   unfoldable pub AcceptsNever : Type 0
-  AcceptsNever = (d : List ℕ) (cr : ℕ) (l : List Access) → program d cr (file_of l) ≡ Captured.Found Judged.Allowed → ⊥
+  AcceptsNever = (d : List ℕ) (cr : ℕ) (l : List Access) → program d cr (file_of l) ≡ Ok allowed → ⊥
 
   -- comparing addresses only
   unfoldable pub AddressesAlone : Type 0
@@ -61,7 +59,7 @@ module _ (program : List ℕ → ℕ → List ℕ → Captured) where
 
   -- no longer looking at records, once an access has departed
   unfoldable pub StopsLooking : Type 0
-  StopsLooking = (d : List ℕ) (cr : ℕ) (l : List Access) (more : List ℕ) (v : Captured) → program d cr (file_of l) ≡ v → (v ≡ Captured.Found Judged.Allowed → ⊥)
+  StopsLooking = (d : List ℕ) (cr : ℕ) (l : List Access) (more : List ℕ) (v : Captured) → program d cr (file_of l) ≡ v → (v ≡ Ok allowed → ⊥)
       → program d cr (file_of l ++ more) ≡ v
 
 -- on an `unfolding` line: all the definitions of this file that compute

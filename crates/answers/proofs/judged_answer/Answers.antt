@@ -2,10 +2,10 @@
 use Rattle.answers.specs.Answers.{judged_by}
 use Rattle.answers.proofs.judged_answer.Goals as goal
 
-pub returns-in-Allowed : goal.returns-in-Allowed
+pub returns-in-None : goal.returns-in-None
 unfolding judged_by
-returns-in-Allowed c = rw c.in-Allowed.is c.packed.ensures
+returns-in-None c = rw c.in-None.is c.packed.ensures
 
-pub returns-in-Departs : goal.returns-in-Departs
+pub returns-in-Some : goal.returns-in-Some
 unfolding judged_by
-returns-in-Departs c = rw c.in-Departs.is c.packed-in-Departs.ensures
+returns-in-Some c = rw c.in-Some.is c.packed-in-Some.ensures

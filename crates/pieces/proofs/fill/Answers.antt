@@ -9,11 +9,11 @@ loop-have-init g c = record { within = omega arith; bytes = Consumes-nil (g.F.Re
 
 pub loop-have-preserved : goal.loop-have-preserved
 loop-have-preserved g c = record {
-  within = omega arith;
-  bytes = read_on _ _ _ _ _ _ _ c.loop-have.invariant.bytes c.read_more-more.ensures.front c.read_more-more.ensures.bytes;
+  within = let w = rw c.in_ok-n.was at c.read_more.ensures.within in omega (arith, w);
+  bytes = read_on _ _ _ _ _ _ _ c.loop-have.invariant.bytes c.read_more.ensures.front (rw c.in_ok-n.was at c.read_more.ensures.bytes);
 }
 
 pub returns-then-n-eq0-clause-bytes : goal.returns-then-n-eq0-clause-bytes
 returns-then-n-eq0-clause-bytes g c =
-    let none : c.loop-have.have + c.read_more-more.result.n ≡ c.loop-have.have = omega arith in
-    rw none at (read_on _ _ _ _ _ _ _ c.loop-have.invariant.bytes c.read_more-more.ensures.front c.read_more-more.ensures.bytes)
+    let none : c.loop-have.have + c.in_ok-n.n ≡ c.loop-have.have = omega arith in
+    rw none at (read_on _ _ _ _ _ _ _ c.loop-have.invariant.bytes c.read_more.ensures.front (rw c.in_ok-n.was at c.read_more.ensures.bytes))
