@@ -29,9 +29,9 @@ fn is_end(stands: &[u8], at: usize) -> bool
     ensures { result ≡ ends (part stands.now at 16) }
 {
     scan::is_marked(stands, at)
-        & (words::get1(stands, at + 2) == 3)
-        & (words::get1(stands, at + 3) == 0)
-        & (words::get4(stands, at + 4) == 0)
+        & (words::get::<u8>(stands, at + 2) == 3)
+        & (words::get::<u8>(stands, at + 3) == 0)
+        & (words::get::<u32>(stands, at + 4) == 0)
 }
 
 // That group; or none, since it is damaged: "no valid end, .. a group longer than the used part", and what the scan finds.
@@ -43,7 +43,7 @@ fn last_group(chip: bool, base: u32, window: &[u8], stands: &[u8]) -> Option<Gro
     if !is_end(stands, end) {
         return None;
     }
-    let told = words::get8(stands, end + 8);
+    let told = words::get::<u64>(stands, end + 8);
     let room = (end / 16) as u64;
     if room < told {
         return None;
@@ -63,7 +63,7 @@ fn is_field(stands: &[u8], at: usize) -> bool
     requires { at + 16 ≤ length stands.now }
     ensures { result ≡ ltb 1 (kind (part stands.now at 16)) }
 {
-    1 < words::get1(stands, at + 2)
+    1 < words::get::<u8>(stands, at + 2)
 }
 
 // The record of a field undone.
@@ -71,8 +71,8 @@ fn undo_field(d: Device, stands: &[u8], at: usize) -> Device
     requires { (at + 16 ≤ length stands.now) × (fits_some d.chip (field_at d.chip (place (part stands.now at 16))) (value (part stands.now at 16)) ≡ true) }
     ensures { view result ≡ with_number (place (part stands.now at 16)) (value (part stands.now at 16)) (view d) }
 {
-    let n = words::get4(stands, at + 4) as usize;
-    device::with_number(d, n, words::get8(stands, at + 8))
+    let n = words::get::<u32>(stands, at + 4) as usize;
+    device::with_number(d, n, words::get::<u64>(stands, at + 8))
 }
 
 // "Undoing goes last to first": the `count` records from `from` on. The table is taken out once and put back once, and the device is touched

@@ -52,14 +52,14 @@ pub fn nbytes_of(table: &[u8; 2048], ch: usize) -> u64
     requires { ch < 64 }
     ensures { (result ≡ (tcd_of (part table.now (32 * ch) 32)).nbytes) × (result < 2 ^ 32) × (length table.now ≡ 2048) }
 {
-    words::get4(table, 32 * ch + 0x08) as u64
+    words::get::<u32>(table, 32 * ch + 0x08) as u64
 }
 
 pub fn csr_of(table: &[u8; 2048], ch: usize) -> u64
     requires { ch < 64 }
     ensures { (result ≡ (tcd_of (part table.now (32 * ch) 32)).csr) × (length table.now ≡ 2048) }
 {
-    words::get2(table, 32 * ch + 0x1E) as u64
+    words::get::<u16>(table, 32 * ch + 0x1E) as u64
 }
 
 // ---- the passes of one channel

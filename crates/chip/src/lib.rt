@@ -45,7 +45,7 @@ fn start_of(table: &[u8; 2048], ch: usize) -> bool
     requires { ch < 64 }
     ensures { result ≡ start_in table.now ch }
 {
-    words::has_bit(words::get1(table, 32 * ch + 0x1F) as u64, START)
+    words::has_bit(words::get::<u8>(table, 32 * ch + 0x1F) as u64, START)
 }
 
 fn with_start(starts: u64, table: &[u8; 2048], ch: usize) -> u64
@@ -238,14 +238,14 @@ fn minor_link(table: &[u8; 2048], ch: usize) -> usize
     requires { ch < 64 }
     ensures { (result ≡ minor_link table.now ch) × (result < 64) }
 {
-    words::link_of(words::get2(table, 32 * ch + 0x14))
+    words::link_of(words::get::<u16>(table, 32 * ch + 0x14))
 }
 
 fn major_link(table: &[u8; 2048], ch: usize) -> usize
     requires { ch < 64 }
     ensures { (result ≡ major_link table.now ch) × (result < 64) }
 {
-    ((words::get2(table, 32 * ch + 0x1E) >> 8) % 64) as usize
+    ((words::get::<u16>(table, 32 * ch + 0x1E) >> 8) % 64) as usize
 }
 
 // "One whose pass answers no [..] is passed over for the rest of the call."

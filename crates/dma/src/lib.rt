@@ -55,7 +55,7 @@ fn starts(table: &[u8; 2048], off: usize, size: usize) -> bool
     ensures { (result ≡ starts_in table.now off size) × (length table.now ≡ 2048) }
 {
     let last = 32 * (off / 32) + 0x1F;
-    let b = u64::from(words::get1(table, last));
+    let b = u64::from(words::get::<u8>(table, last));
     last < off + size && words::has_bit(b, START)
 }
 

@@ -83,7 +83,7 @@ fn flag_one<F: Fn(u64) -> u64>(
     ensures { (g : ℕ → ℕ) → Makes (F.post flagged.now) g → OnTable (flag_one g ch) s result ⇒ journal ⇒ table }
 {
     let place = 32 * ch + 0x1F;
-    let b = u64::from(words::get1(table, place));
+    let b = u64::from(words::get::<u8>(table, place));
     journal::store_table(s, table, place, 1, flagged(b), journal)
 }
 

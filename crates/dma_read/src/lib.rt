@@ -19,9 +19,9 @@ pub fn tcd_read(d: Device, off: u32, size: u32) -> u32
 {
     let at = off as usize;
     match size {
-        1 => u32::from(words::get1(&d.table, at)),
-        2 => u32::from(words::get2(&d.table, at)),
-        _ => words::get4(&d.table, at),
+        1 => u32::from(words::get::<u8>(&d.table, at)),
+        2 => u32::from(words::get::<u16>(&d.table, at)),
+        _ => words::get::<u32>(&d.table, at),
     }
 }
 

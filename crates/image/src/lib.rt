@@ -134,7 +134,7 @@ fn put_row<T: Held>(image: &mut [u8], from: usize, v: &[T])
     ensures { image.new ≡ splice image.old (2064 + 8 * from) (laid (T.values v.now)) }
 {
     for k in (0..v.len()).rev() {
-        words::put8(image, 2064 + 8 * (from + k), v[k].whole());
+        words::put(image, 2064 + 8 * (from + k), v[k].whole());
     }
 }
 
@@ -144,7 +144,7 @@ fn put_sixes(image: &mut [u8], from: usize, v: &[u8])
     ensures { image.new ≡ splice image.old (2064 + 8 * from) (laid (map (λ (x : ℕ). x % 64) v.now)) }
 {
     for k in (0..v.len()).rev() {
-        words::put8(image, 2064 + 8 * (from + k), u64::from(v[k] % 64));
+        words::put(image, 2064 + 8 * (from + k), u64::from(v[k] % 64));
     }
 }
 
@@ -176,8 +176,8 @@ fn put_flags(image: &mut [u8], ignore_masks: bool, chip: bool)
     requires { 2064 ≤ length image.old }
     ensures { image.new ≡ splice image.old 2048 (setting_bytes ignore_masks chip) }
 {
-    words::put8(image, 2048, flags_of(ignore_masks, chip));
-    words::put8(image, 2056, 0);
+    words::put(image, 2048, flags_of(ignore_masks, chip));
+    words::put(image, 2056, 0u64);
 }
 
 // ---- reading
@@ -186,7 +186,7 @@ fn number_at<T: Held>(image: &[u8], n: usize) -> T
     requires { 2072 + 8 * n ≤ length image.now }
     ensures { T.value result ≡ number_in T.bits image.now n }
 {
-    T::low(words::get8(image, 2064 + 8 * n))
+    T::low(words::get::<u64>(image, 2064 + 8 * n))
 }
 
 fn get_row<T: Held>(image: &[u8], from: usize, into: &mut [T])
@@ -383,7 +383,7 @@ fn setting_fits(image: &[u8]) -> bool
     ensures { result ≡ setting_fits image.now }
 {
     let flags = flags_of(image[2048] == 1, image[2049] == 1);
-    (words::get8(image, 2048) == flags) & (words::get8(image, 2056) == 0)
+    (words::get::<u64>(image, 2048) == flags) & (words::get::<u64>(image, 2056) == 0)
 }
 
 // Fields 0 to 15: the numbers that stand alone are those of their types, and 0 is behind them.

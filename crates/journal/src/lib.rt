@@ -21,8 +21,8 @@ pub fn put_record(journal: &mut [u8], at: usize, kind: u8, width: u8, place: u32
     ensures { journal.new ≡ splice journal.old at (line kind width place value) }
 {
     // in an order that was chosen by counting instructions: docs/DECISIONS.md
-    words::put4(journal, at + 4, place);
-    words::put8(journal, at + 8, value);
+    words::put(journal, at + 4, place);
+    words::put(journal, at + 8, value);
     journal[at + 3] = width;
     journal[at + 2] = kind;
     journal[at + 1] = 0x52;
@@ -129,10 +129,10 @@ pub fn undo_store(base: u32, window: &mut [u8], table: &mut [u8; 2048], journal:
     requires { p + 16 ≤ length journal.now }
     ensures { Undone (undo_line base (part journal.now p 16)) ⇒ window ⇒ table }
 {
-    let kind = words::get1(journal, p + 2);
-    let width = words::get1(journal, p + 3) as usize;
-    let place = words::get4(journal, p + 4);
-    let old = words::get8(journal, p + 8);
+    let kind = words::get::<u8>(journal, p + 2);
+    let width = words::get::<u8>(journal, p + 3) as usize;
+    let place = words::get::<u32>(journal, p + 4);
+    let old = words::get::<u64>(journal, p + 8);
     match kind {
         0 => undo_memory(base, window, place, width, old),
         1 => undo_table(table, place, width, old),

@@ -436,24 +436,24 @@ pub fn record_at(records: &[u8], at: usize) -> Record
     requires { at + 16 ≤ length records.now }
     ensures { result ≡ looked_at (part records.now at 16) }
 {
-    if words::get2(records, at) != 0x4A52 {
+    if words::get::<u16>(records, at) != 0x4A52 {
         return Err(Flaw::Mark);
     }
-    let kind = words::get1(records, at + 2);
+    let kind = words::get::<u8>(records, at + 2);
     if !is_kind(kind) {
         return Err(Flaw::Kind);
     }
-    let width = words::get1(records, at + 3);
+    let width = words::get::<u8>(records, at + 3);
     if !is_width(width) {
         return Err(Flaw::Width);
     }
-    let value = words::get8(records, at + 8);
+    let value = words::get::<u64>(records, at + 8);
     if !is_narrow(value, width) {
         return Err(Flaw::Value);
     }
     Ok(Seen {
         read: kind == 4,
-        address: words::get4(records, at + 4),
+        address: words::get(records, at + 4),
         width: width as u32,
         value: value as u32,
     })

@@ -139,7 +139,7 @@ pub fn dma_start_linked(s: Step, table: &mut [u8; 2048], ch: usize, journal: &mu
     ensures { OnTable (link ch) s result ⇒ journal ⇒ table }
 {
     let place = 32 * ch + 0x1F;
-    let b = words::get1(table, place);
+    let b = words::get::<u8>(table, place);
     let v = words::gain_bit(b as u64, START);
     let s1 = journal::store_table(s, table, place, 1, v, journal);
     raise_kick(s1, true, ch)
@@ -190,11 +190,11 @@ fn replace(s: Step, table: &mut [u8; 2048], ch: usize, next: &[u8; 32], journal:
     requires { ch < 64 }
     ensures { OnTable (replaced ch next.now) s result ⇒ journal ⇒ table }
 {
-    let w0 = words::get8(next, 0);
-    let w1 = words::get8(next, 8);
-    let w2 = words::get8(next, 16);
-    let w3 = words::get8(next, 24);
-    let on = csr_has(words::get2(next, 0x1E), START);
+    let w0 = words::get::<u64>(next, 0);
+    let w1 = words::get::<u64>(next, 8);
+    let w2 = words::get::<u64>(next, 16);
+    let w3 = words::get::<u64>(next, 24);
+    let on = csr_has(words::get::<u16>(next, 0x1E), START);
     let s1 = store_words(s, table, ch, w0, w1, w2, w3, journal);
     raise_kick(s1, on, ch)
 }

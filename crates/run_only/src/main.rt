@@ -8,15 +8,15 @@ use std::io;
 
 // Channel 0's descriptor.
 fn describe(table: &mut [u8; 2048]) {
-    words::put4(table, 0x00, 0x80000000);
-    words::put2(table, 0x04, 0x0202);
-    words::put2(table, 0x06, 4);
-    words::put4(table, 0x08, 4);
-    words::put4(table, 0x10, 0x80000004);
-    words::put2(table, 0x14, 1);
-    words::put2(table, 0x16, 4);
-    words::put2(table, 0x1C, 1);
-    words::put2(table, 0x1E, 1);
+    words::put(table, 0x00, 0x80000000u32);
+    words::put(table, 0x04, 0x0202u16);
+    words::put(table, 0x06, 4u16);
+    words::put(table, 0x08, 4u32);
+    words::put(table, 0x10, 0x80000004u32);
+    words::put(table, 0x14, 1u16);
+    words::put(table, 0x16, 4u16);
+    words::put(table, 0x1C, 1u16);
+    words::put(table, 0x1E, 1u16);
 }
 
 // A device that is fresh but for the descriptor and KICK.
@@ -34,8 +34,8 @@ fn print_record(rt: &impl Print, journal: &[u8; 256], i: usize) -> io::Result<()
     requires { i < 16 }
 {
     let at = 16 * i;
-    let first = words::get8(journal, at);
-    let second = words::get8(journal, at + 8);
+    let first = words::get::<u64>(journal, at);
+    let second = words::get::<u64>(journal, at + 8);
     println!(rt; "{first:016x}{second:016x}")
 }
 

@@ -62,9 +62,9 @@ fn head_of(chip: bool, base: u32, window: &[u8], journal: &[u8], at: usize) -> O
     if !is_marked(journal, at) {
         return None;
     }
-    let kind = words::get1(journal, at + 2);
-    let width = words::get1(journal, at + 3) as usize;
-    let place = words::get4(journal, at + 4);
+    let kind = words::get::<u8>(journal, at + 2);
+    let width = words::get::<u8>(journal, at + 3) as usize;
+    let place = words::get::<u32>(journal, at + 4);
     match kind {
         0 => window_head(base, window, place, width),
         1 => table_head(place, width),

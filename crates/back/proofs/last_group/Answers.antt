@@ -8,12 +8,12 @@ pub returns-then-not-is_end : goal.returns-then-not-is_end
 returns-then-not-is_end c = no_end _ _ _ _ (omega arith) (sym c.is_end.ensures ∙ c.if-not-is_end.true)
 
 pub returns-then-room-told : goal.returns-then-room-told
-returns-then-room-told c = too_long _ _ _ _ (omega arith) (sym c.is_end.ensures ∙ c.if-not-is_end.false) c.get8-told.ensures c.if-room-told.true
+returns-then-room-told c = too_long _ _ _ _ (omega arith) (sym c.is_end.ensures ∙ c.if-not-is_end.false) c.get-told.ensures c.if-room-told.true
 
 pub returns-then-not-all_sound : goal.returns-then-not-all_sound
 returns-then-not-all_sound c =
-    some_damaged _ _ _ _ (omega arith) (sym c.is_end.ensures ∙ c.if-not-is_end.false) c.get8-told.ensures c.if-room-told.false c.all_sound.ensures c.if-not-all_sound.true
+    some_damaged _ _ _ _ (omega arith) (sym c.is_end.ensures ∙ c.if-not-is_end.false) c.get-told.ensures c.if-room-told.false c.all_sound.ensures c.if-not-all_sound.true
 
 pub returns : goal.returns
 returns c =
-    all_sound_lem _ _ _ _ (omega arith) (sym c.is_end.ensures ∙ c.if-not-is_end.false) c.get8-told.ensures c.if-room-told.false c.all_sound.ensures c.if-not-all_sound.false
+    all_sound_lem _ _ _ _ (omega arith) (sym c.is_end.ensures ∙ c.if-not-is_end.false) c.get-told.ensures c.if-room-told.false c.all_sound.ensures c.if-not-all_sound.false

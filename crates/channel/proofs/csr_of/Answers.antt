@@ -4,4 +4,4 @@ use borrow.Author.Rules.{rules}
 use Rattle.channel.proofs.csr_of.Goals as goal
 
 pub returns : goal.returns
-returns c = (csr_read _ _ c.get2.ensures, search rules)
+returns c = (csr_read _ _ c.get.ensures, search rules)

@@ -4,4 +4,4 @@ use borrow.Author.Rules.{rules}
 use Rattle.channel.proofs.nbytes_of.Goals as goal
 
 pub returns : goal.returns
-returns c = (nbytes_read _ _ c.get4.ensures, search rules, search rules)
+returns c = (nbytes_read _ _ c.get.ensures, search rules, search rules)

@@ -7,4 +7,4 @@ use Rattle.chip.specs.Seen.{start_in}
 use Rattle.chip.proofs.start_of.Goals as goal
 
 pub returns : goal.returns
-returns c = (unfold start_in in c.has_bit.ensures ∙ ap (λ (n : ℕ). has n START) c.get1.ensures)
+returns c = (unfold start_in in c.has_bit.ensures ∙ ap (λ (n : ℕ). has n START) c.get.ensures)

@@ -7,7 +7,7 @@ use Rattle.dma.proofs.starts.Goals as goal
 
 pub returns-then-last-off : goal.returns-then-last-off
 unfolding starts_in
-returns-then-last-off c = (rw (lt-ltb _ _ c.if-last-off.true, ← (c.from-b.ensures ∙ c.get1.ensures)) c.has_bit.ensures, omega arith)
+returns-then-last-off c = (rw (lt-ltb _ _ c.if-last-off.true, ← (c.from-b.ensures ∙ c.get.ensures)) c.has_bit.ensures, omega arith)
 
 pub returns-else-last-off : goal.returns-else-last-off
 unfolding starts_in

@@ -6,4 +6,4 @@ use Rattle.image.proofs.number_at.Goals as goal
 
 pub returns : goal.returns
 unfolding number_in
-returns g c = c.low.ensures ∙ ap (λ (m : ℕ). m % 2 ^ g.T.Held.bits) c.get8.ensures
+returns g c = c.low.ensures ∙ ap (λ (m : ℕ). m % 2 ^ g.T.Held.bits) c.get.ensures

@@ -3,4 +3,4 @@ use Rattle.image.proofs.Laws.{flags-put}
 use Rattle.image.proofs.put_flags.Goals as goal
 
 pub returns : goal.returns
-returns c = flags-put _ _ _ _ _ _ c.flags_of.ensures c.put8.ensures c.put8-2.ensures
+returns c = flags-put _ _ _ _ _ _ c.flags_of.ensures c.put.ensures c.put-2.ensures

@@ -9,5 +9,5 @@ loop-k-init c = (sixes_none _ _ c.args.v.now, refl)
 
 pub loop-k-preserved : goal.loop-k-preserved
 loop-k-preserved c =
-    let put = c.put8 in
+    let put = c.put in
     (sixes_turn _ _ c.args.v.now c.loop-k.k _ _ _ _ (omega arith) (omega arith) c.loop-k.invariant.0 c.from.ensures put.ensures, omega (arith, put.auto.s))

@@ -9,4 +9,4 @@ pub returns : goal.returns
 unfolding link when
 returns c base lent d w m =
     then base lent _ _ _ (c.raise_kick.ensures base lent d w _ _ m) (c.store_table-s1.ensures base lent d w m)
-    ∙ rw (c.gain_bit-v.ensures, c.get1-b.ensures) (sym (fetched base lent _ d w _ _ m _ _ _ (omega arith)))
+    ∙ rw (c.gain_bit-v.ensures, c.get-b.ensures) (sym (fetched base lent _ d w _ _ m _ _ _ (omega arith)))

@@ -8,4 +8,4 @@ pub returns : goal.returns
 unfolding replaced store_whole tcd_of
 returns c base lent d w m =
     then base lent _ _ _ (c.raise_kick.ensures base lent d w _ _ m) (c.store_words-s1.ensures base lent d w m)
-    ∙ rw (c.get8-w0.ensures, c.get8-w1.ensures, c.get8-w2.ensures, c.get8-w3.ensures, c.csr_has-on.ensures, c.get2.ensures)
+    ∙ rw (c.get-w0.ensures, c.get-w1.ensures, c.get-w2.ensures, c.get-w3.ensures, c.csr_has-on.ensures, c.get.ensures)
