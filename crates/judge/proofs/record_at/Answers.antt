@@ -22,4 +22,4 @@ pub overflow_cast-result-2 : goal.overflow_cast-result-2
 overflow_cast-result-2 c = search (rules, c.is_narrow.ensures.1 c.if-not-is_narrow.false)
 
 pub returns : goal.returns
-returns c = no_flaw _ _ c.get.ensures c.if-get-ne19026.false c.get-kind.ensures (sym c.is_kind.ensures ∙ c.if-not-is_kind.false) c.get-width.ensures (sym c.is_width.ensures ∙ c.if-not-is_width.false) c.get-value.ensures (sym c.is_narrow.ensures.0 ∙ c.if-not-is_narrow.false) c.get4.ensures
+returns c = no_flaw _ _ c.get.ensures c.if-get-ne19026.false c.get-kind.ensures (sym c.is_kind.ensures ∙ c.if-not-is_kind.false) c.get-width.ensures (sym c.is_width.ensures ∙ c.if-not-is_width.false) c.get-value.ensures (sym c.is_narrow.ensures.0 ∙ c.if-not-is_narrow.false) c.get-2.ensures
