@@ -10,6 +10,7 @@ ghost use Rattle.rules.specs.View.{view};
 ghost use Rattle.rules.proofs.Proper.{Proper};
 ghost use Rattle.act.specs.Lent.{◌⇒◌};
 ghost use Rattle.act.specs.Parts.{Arrays, ordered, tabled, counted, taking};
+ghost use Rattle.engine.specs.Runs.{call_of};
 ghost use Rattle.answers.specs.Answers.{packed, left, read_by};
 ghost use Rattle.direct.specs.Direct.{left_of, SparedBy, core_in, Aside, Feeds, Heeds, RunsFed, fresh_by, saved, saved_by, loaded_by};
 
@@ -198,7 +199,9 @@ fn acknowledge_by(k: Short, ipl: u32, taken: &mut [u64; 192], journal: &mut [u8]
     answers::heard_answer(verdict, heard, done.used)
 }
 
+// A run, or a service (`again`).
 fn run_by(
+    again: bool,
     k: Short,
     time: u64,
     pace: u64,
@@ -213,46 +216,10 @@ fn run_by(
     journal: &mut [u8],
     used: u64,
 ) -> Fed
-    ensures { ((x : Arrays) → (RunsFed (run time pace) base k result x ⇒ window ⇒ staging ⇒ journal ⇒ table ⇒ busy ⇒ majors ⇒ pending ⇒ priorities) used) × SparedBy result.answer priorities.old priorities.new }
+    ensures { ((x : Arrays) → (RunsFed (call_of again time pace) base k result x ⇒ window ⇒ staging ⇒ journal ⇒ table ⇒ busy ⇒ majors ⇒ pending ⇒ priorities) used) × SparedBy result.answer priorities.old priorities.new }
 {
     handed_back(engine::run_in(
-        false,
-        k.chip,
-        core_in(k),
-        time,
-        pace,
-        base,
-        window,
-        table,
-        busy,
-        majors,
-        pending,
-        priorities,
-        staging,
-        journal,
-        used as usize,
-    ))
-}
-
-fn service_by(
-    k: Short,
-    time: u64,
-    pace: u64,
-    base: u32,
-    window: &mut [u8],
-    table: &mut [u8; 2048],
-    busy: &mut [u64; 64],
-    majors: &mut [u64; 64],
-    pending: &mut [u32; 64],
-    priorities: &mut [u8; 64],
-    staging: &mut [u8],
-    journal: &mut [u8],
-    used: u64,
-) -> Fed
-    ensures { ((x : Arrays) → (RunsFed (service time pace) base k result x ⇒ window ⇒ staging ⇒ journal ⇒ table ⇒ busy ⇒ majors ⇒ pending ⇒ priorities) used) × SparedBy result.answer priorities.old priorities.new }
-{
-    handed_back(engine::run_in(
-        true,
+        again,
         k.chip,
         core_in(k),
         time,
@@ -455,6 +422,7 @@ pub extern "C" fn kp_device_run(
         chip: d.chip,
     };
     let e = run_by(
+        false,
         k,
         time,
         pace,
@@ -495,7 +463,8 @@ pub extern "C" fn kp_device_service(
         ignore_masks: d.ignore_masks,
         chip: d.chip,
     };
-    let e = service_by(
+    let e = run_by(
+        true,
         k,
         time,
         pace,
