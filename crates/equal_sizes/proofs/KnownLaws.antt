@@ -18,7 +18,7 @@ use Rattle.memory.specs.Places.{holding, place_of}
 use Rattle.std.specs.Prelude.{Option}
 use Rattle.memory.proofs.Laws.{inside}
 use Rattle.equal_sizes.specs.Known.{Recorded, Within, Inside, Known, Plain, sizes_of}
-use Rattle.equal_sizes.specs.declared.Steps.{Steps}
+use Rattle.equal_sizes.specs.declared.steps.Steps.{Steps}
 use Rattle.equal_sizes.specs.declared.Units.{Units}
 use Rattle.equal_sizes.proofs.Laws.{single_on, bursts_on}
 
@@ -196,11 +196,12 @@ module _ (size count : ℕ) (step : Steps) (sized : Sized size) where
   pub plain_itself : Plain size count step (record { width = size; count = count; step = step })
   plain_itself = record { width = small_width size sized; same = λ _ _ _ _ _ _. refl }
 
-  pub plain_fours : 4 < size → step.soff ≡ size → step.doff ≡ size
-      → Plain size count step (record { width = 4; count = count * (size / 4); step = record { soff = 4; smod = step.smod; doff = 4; dmod = step.dmod } })
-  plain_fours h p q = record {
+  pub plain_fours : 4 < size → step.soff ≡ size → step.doff ≡ size → {fours : Steps} → fours.soff ≡ 4 → fours.doff ≡ 4 → fours.smod ≡ step.smod → fours.dmod ≡ step.dmod
+      → Plain size count step (record { width = 4; count = count * (size / 4); step = fours })
+  plain_fours h p q {fours} sources targets smod dmod = record {
     width = λ _. record { positive = lit< tt; most = lit≤ tt; one_of = refl };
-    same = λ a b s d ls ld. rw (a, b, p, q) (packed count (size / 4) size s d (whole size sized h) (omega arith) ls ld);
+    same = λ a b s d ls ld.
+        rw (a, b, sym smod ∙ a, sym dmod ∙ b, p, q, sources, targets) (packed count (size / 4) size s d (whole size sized h) (omega arith) ls ld);
   }
 
 module _ (base : ℕ) (lent : Lent) (v : World) {size count : ℕ} {step : Steps} {u : Units} (plain : Plain size count step u) where

@@ -4,7 +4,7 @@ use Rattle.rules.specs.Act.{Act}
 use Rattle.rules.specs.Minor.{move_sizes}
 use Rattle.words.specs.Widths.{MemoryWidth}
 use Rattle.act.specs.Worlds.{Walks}
-use Rattle.equal_sizes.specs.declared.Steps.{Steps}
+use Rattle.equal_sizes.specs.declared.steps.Steps.{Steps}
 use Rattle.equal_sizes.specs.declared.Units.{Units}
 
 -- an act with one store, which was made: the journal is one record longer

@@ -14,17 +14,11 @@ ghost use Rattle.act.specs.Worlds.{Walks};
 ghost use Rattle.equal_sizes.specs.Moves.{Moves};
 ghost use Rattle.equal_sizes.specs.Known.{Recorded, Within, Inside, Known, Plain, sizes_of};
 
+mod steps;
+
 use act::{Stopped, Walk};
 use rules::Refusal;
-
-// What the addresses step by after each whole size, and with which modulo.
-#[derive(Clone, Copy)]
-pub struct Steps {
-    pub soff: u32,
-    pub smod: u32,
-    pub doff: u32,
-    pub dmod: u32,
-}
+pub use steps::Steps;
 
 // The two addresses after a transfer, and the journal's end.
 #[derive(Clone, Copy)]
@@ -116,7 +110,7 @@ fn move_units<const WIDTH: usize>(
     journal: &mut [u8],
     at: usize,
 ) -> Result<Moved, Stopped<usize>>
-    requires { (MemoryWidth WIDTH) × (step.smod < 32) × (step.dmod < 32) }
+    requires { MemoryWidth WIDTH }
     ensures { Moves (move_sizes count step.soff step.smod step.doff step.dmod WIDTH from to) base at result ⇒ window ⇒ journal }
 {
     let mut s = from;
@@ -177,7 +171,7 @@ fn move_bursts(
     journal: &mut [u8],
     at: usize,
 ) -> Result<Moved, Stopped<usize>>
-    requires { (4 ≤ size) × (size ≤ 32) × (step.smod < 32) × (step.dmod < 32) }
+    requires { (4 ≤ size) × (size ≤ 32) }
     ensures { Moves (move_sizes count step.soff step.smod step.doff step.dmod size from to) base at result ⇒ window ⇒ journal }
 {
     let units = size / 4;
@@ -209,7 +203,7 @@ fn move_asking(
     journal: &mut [u8],
     at: usize,
 ) -> Result<Moved, Stopped<usize>>
-    requires { (Sized size) × (step.smod < 32) × (step.dmod < 32) }
+    requires { Sized size }
     ensures { Moves (move_sizes count step.soff step.smod step.doff step.dmod size from to) base at result ⇒ window ⇒ journal }
 {
     match size {
@@ -392,7 +386,7 @@ pub fn move_sizes(
     journal: &mut [u8],
     at: usize,
 ) -> Result<Moved, Stopped<usize>>
-    requires { (Sized size) × (step.smod < 32) × (step.dmod < 32) }
+    requires { Sized size }
     ensures { Moves (move_sizes count step.soff step.smod step.doff step.dmod size from to) base at result ⇒ window ⇒ journal }
 {
     let units = units_of(size, count, step);

@@ -23,22 +23,22 @@ use Rattle.act.specs.declared.Stopped.{Stopped}
 use Rattle.act.proofs.Laws.{on_then, described}
 use Rattle.equal_sizes.specs.Moves.{moved}
 use Rattle.equal_sizes.specs.declared.Moved.{Moved}
-use Rattle.equal_sizes.specs.declared.Steps.{Steps}
+use Rattle.equal_sizes.specs.declared.steps.Steps.{Steps}
 use Rattle.minor.specs.Passes.{passed}
-use Rattle.minor.specs.Stepping.{steps_of}
+use Rattle.minor.specs.Stepping.{StepsOf}
 
 -- ---- a transfer
 
-module _ (t : Tcd) (n : ℕ) {from to reads : ℕ} {step : Steps} (p : from ≡ size_of (t.attr / 2 ^ 8)) (q : to ≡ size_of t.attr) (s : step ≡ steps_of t)
+module _ (t : Tcd) (n : ℕ) {from to reads : ℕ} {step : Steps} (p : from ≡ size_of (t.attr / 2 ^ 8)) (q : to ≡ size_of t.attr) (s : StepsOf t step)
     (r : reads ≡ wholes n from)
   where
     pub transfer_equal : from ≡ to → move_sizes reads step.soff step.smod step.doff step.dmod from t.saddr t.daddr ≡ transfer t n
-    unfolding transfer ssize dsize steps_of
-    transfer_equal e = rw (s, ← p, ← q, ← r, eq-eqb from to e)
+    unfolding transfer ssize dsize
+    transfer_equal e = rw (s.soff, s.smod, s.doff, s.dmod, ← p, ← q, ← r, eq-eqb from to e)
 
     pub transfer_unequal : (from ≡ to → ⊥) → move_unequal reads step.soff step.smod step.doff step.dmod from to t.saddr t.daddr ≡ transfer t n
-    unfolding transfer ssize dsize steps_of
-    transfer_unequal e = rw (s, ← p, ← q, ← r, ne_eqb from to e)
+    unfolding transfer ssize dsize
+    transfer_unequal e = rw (s.soff, s.smod, s.doff, s.dmod, ← p, ← q, ← r, ne_eqb from to e)
 
 -- ---- a pass
 

@@ -7,7 +7,7 @@ ghost use Rattle.rules.specs.Minor.{transfer, pass};
 ghost use Rattle.act.specs.Lent.{◌⇒◌, by};
 ghost use Rattle.unequal_sizes.specs.Stages.{Stages};
 ghost use Rattle.minor.specs.Passes.{Passes};
-ghost use Rattle.minor.specs.Stepping.{steps_of};
+ghost use Rattle.minor.specs.Stepping.{StepsOf};
 
 use act::{Flow, Step, Stopped};
 use equal_sizes::{Moved, Steps};
@@ -15,7 +15,7 @@ use rules::Tcd;
 
 // "Offsets `soff` and `doff` are signed 16-bit"; the modulos are 5 bits of `attr` each.
 fn steps_of(t: Tcd) -> Steps
-    ensures { (result ≡ steps_of t) × (result.smod < 32) × (result.dmod < 32) }
+    ensures { StepsOf t result }
 {
     Steps {
         soff: words::signed16(t.soff),

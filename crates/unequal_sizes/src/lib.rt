@@ -218,7 +218,7 @@ pub fn move_unequal(
     journal: &mut [u8],
     at: usize,
 ) -> Result<Moved, Stopped<usize>>
-    requires { (Sized ssize) × (Sized dsize) × (step.smod < 32) × (step.dmod < 32) × (reads * ssize < 2 ^ 32) }
+    requires { (Sized ssize) × (Sized dsize) × (reads * ssize < 2 ^ 32) }
     ensures { Stages (move_unequal reads step.soff step.smod step.doff step.dmod ssize dsize from to) base (by staging) at result ⇒ window ⇒ journal }
 {
     let total = reads * ssize;

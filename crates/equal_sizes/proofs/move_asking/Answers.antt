@@ -4,9 +4,8 @@ use Rattle.equal_sizes.proofs.move_asking.Goals as goal
 
 pub move_bursts-requires : goal.move_bursts-requires
 move_bursts-requires c =
-    let p = c.requires in
     let others = c.in_default.in_default-own.rest in
-    (bursting _ p.0 others.0.0.1 others.0.1 others.1, p.0.most, p.1, p.2)
+    (bursting _ c.requires others.0.0.1 others.0.1 others.1, c.requires.most)
 
 pub returns-in-1 : goal.returns-in-1
 returns-in-1 c = rw c.in-1.is c.move_units.ensures

@@ -17,7 +17,7 @@ unfolding moved
 returns-in_err-end g c lent d =
     let a = c.args in
     let l = c.loop in
-    let p = c.requires.0 in
+    let p = c.requires in
     let turn = single_on (a.count - l.counter) (a.count - (l.counter + 1)) a.step.soff a.step.smod a.step.doff a.step.dmod g.row.WIDTH l.s l.d (omega arith) refl refl p.positive p.most l.invariant.0 l.invariant.1 in
     rw (made_err c.from_residual.result c.from_residual.ensures)
     (turn-off a.base _ a.at _ _ (move_unit g.row.WIDTH l.s l.d) _ turn _ _ l.end l.invariant.4 _ _ c.move_unit.ensures c.in_err-end.was lent d)
@@ -26,7 +26,7 @@ pub loop-preserved : goal.loop-preserved
 loop-preserved g c =
     let a = c.args in
     let l = c.loop in
-    let p = c.requires.0 in
+    let p = c.requires in
     let turn = single_on (a.count - l.counter) (a.count - (l.counter + 1)) a.step.soff a.step.smod a.step.doff a.step.dmod g.row.WIDTH l.s l.d (omega arith) c.modulo_add-s.ensures c.modulo_add-d.ensures p.positive p.most l.invariant.0 l.invariant.1 in (
       search rules,
       search rules,

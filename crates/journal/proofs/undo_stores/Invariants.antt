@@ -9,4 +9,3 @@ use Rattle.journal.proofs.undo_stores.Given as goal
 abbrev pub invariant-loop-k : goal.invariant-loop-k
 invariant-loop-k l =
     ((d : Device) → undo_lines l.base l.k (drop l.from l.journal) (machine_of l.window l.table d) ≡ undo_lines l.base l.count (drop l.from l.journal) (machine_of l.initial.window l.initial.table d)) × (length l.window ≡ length l.initial.window)
-
