@@ -10,7 +10,7 @@ use lib.Seq.{take_at, length-take-le}
 use Rattle.rules.specs.Act.{Act, window, ◌>>=◌, done, fetch}
 use Rattle.rules.specs.Bytes.{bytes, number, part, splice, Bytes}
 use Rattle.rules.specs.Calls.{world_of}
-use Rattle.rules.specs.Carry.{World, Out, no, go, bytes_of, fetched, Lent}
+use Rattle.rules.specs.Carry.{Out, no, go, bytes_of, fetched, Lent}
 use Rattle.rules.specs.Minor.{read_unit, read_units, read_sizes}
 use Rattle.rules.specs.Words.{wrap32, unit_of, modulo_add}
 use Rattle.rules.specs.State.{Device}

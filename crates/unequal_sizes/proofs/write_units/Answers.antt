@@ -1,5 +1,5 @@
 -- `unequal_sizes::write_units` meets its contract. A turn is the law of a size that is one unit. Assumes nothing.
-use Rattle.std.proofs.Common.{◌≡◌, ◌+◌, ◌-◌, ◌*◌, refl, arith, rules}
+use Rattle.std.proofs.Common.{◌+◌, ◌-◌, refl, arith, rules}
 use Rattle.act.proofs.Laws.{made_err}
 use Rattle.act.proofs.Loops.{turn_on, turn-off}
 use Rattle.unequal_sizes.proofs.Unequal.{fewer}
