@@ -10,7 +10,7 @@ use lib.Seq.{take_at, length-take-le}
 use Rattle.rules.specs.Act.{Act, window, ◌>>=◌, done, fetch}
 use Rattle.rules.specs.Bytes.{bytes, number, part, splice, Bytes}
 use Rattle.rules.specs.Calls.{world_of}
-use Rattle.rules.specs.Carry.{World, Out, no, go, bytes_of, fetched, Lent}
+use Rattle.rules.specs.Carry.{Out, no, go, bytes_of, fetched, Lent}
 use Rattle.rules.specs.Minor.{read_unit, read_units, read_sizes}
 use Rattle.rules.specs.Words.{wrap32, unit_of, modulo_add}
 use Rattle.rules.specs.State.{Device}
@@ -38,7 +38,8 @@ module _ (base : ℕ) (lent : Lent) (d : Device) (w j : List ℕ) (e u a : ℕ) 
   unfolding gotten read_unit fetch ◌>>=◌
   read_outside h l = sym (fetch_outside base lent window a u (λ v. done (got ++ v)) (world_of d w j e) (not_there base w a u asked h d))
 
-  pub read_inside : {i : ℕ} {l : List ℕ} → p ≡ Some i → l ≡ got ++ part w i u → gotten (Some tt) l (world_of d w j e) ≡ go base lent (read_unit u a got) (world_of d w j e)
+  pub read_inside : {i : ℕ} {l : List ℕ} → p ≡ Some i → l ≡ got ++ part w i u
+      → gotten (Some tt) l (world_of d w j e) ≡ go base lent (read_unit u a got) (world_of d w j e)
   unfolding gotten read_unit fetch ◌>>=◌ fetched bytes_of go
   read_inside h more =
       rw (more, at_index base w a u asked h)
@@ -64,7 +65,8 @@ module _ {A : Type 0} (base : ℕ) (w : List ℕ) (whole : Act A) (x : Act (List
     unfolding gotten and_then
     read_on_lem {r} {all} h did lent d j e = read r (Some all) h did lent d j e
 
-    pub read_off : {r : Option (Unit {0})} → r ≡ None → Reads x base w r l → (lent : Lent) (d : Device) (j : List ℕ) (e : ℕ) → no 9 (world_of d w j e) ≡ go base lent whole (world_of d w j e)
+    pub read_off : {r : Option (Unit {0})} → r ≡ None → Reads x base w r l → (lent : Lent) (d : Device) (j : List ℕ) (e : ℕ)
+        → no 9 (world_of d w j e) ≡ go base lent whole (world_of d w j e)
     unfolding gotten and_then
     read_off {r} h did lent d j e = read r None h did lent d j e
 

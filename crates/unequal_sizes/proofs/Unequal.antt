@@ -3,9 +3,8 @@ use Rattle.std.specs.Prelude.{Option, Some, None, Result, Ok, Err}
 use mathlib.Core.List.{List, []}
 use mathlib.Core.Logic.{inl, inr}
 use mathlib.Core.Path.{◌≡◌, sym, ap, ◌∙◌}
-use Prim.Native.Nat.{ℕ, suc, ◌+◌, ◌-◌, ◌*◌, ◌/◌, ◌≤◌, ◌<◌}
+use Prim.Native.Nat.{ℕ, suc, ◌+◌, ◌*◌, ◌/◌, ◌≤◌, ◌<◌}
 use native.Mathlib.Nat.{suc-mul, div-mul-le_self}
-use native.Mathlib.Omega.{arith}
 use lib.ListN.{length, take}
 use lib.Seq.{length-take-le}
 use Rattle.rules.specs.Act.{Act, ◌>>=◌, ◌>>◌, done, stage}
@@ -80,18 +79,20 @@ module _ (base : ℕ) (lent : Lent) (dev : Device) (w j : List ℕ) (e reads sof
       unfolding moved read_to and_then
       unequal_unread h = then_rest None h
 
-      module _ {s' : ℕ} (at : r ≡ Some s') (q : Result Written (Stopped ℕ)) (w' j' : List ℕ) (put : wrote q dev w' j' ≡ go base lent (writing l) start) where
-        ended : (x : Result Written (Stopped ℕ)) → q ≡ x → and_then (wrote x dev w' j') (λ d'. go base lent (done (s', d'))) ≡ go base lent tree start
-        unfolding read_to and_then
-        ended x h =
-            ap (λ (o : Out ℕ). and_then o (λ d'. go base lent (done (s', d')))) (sym (ap (λ (y : Result Written (Stopped ℕ)). wrote y dev w' j') h) ∙ put)
-            ∙ sym (go_bind base lent (writing l) (λ d'. done (s', d')) start)
-            ∙ then_rest (Some s') at
+      module _ {s' : ℕ} (at : r ≡ Some s') (q : Result Written (Stopped ℕ)) (w' j' : List ℕ) (put : wrote q dev w' j' ≡ go base lent (writing l) start)
+        where
+          ended : (x : Result Written (Stopped ℕ)) → q ≡ x → and_then (wrote x dev w' j') (λ d'. go base lent (done (s', d'))) ≡ go base lent tree start
+          unfolding read_to and_then
+          ended x h =
+              ap (λ (o : Out ℕ). and_then o (λ d'. go base lent (done (s', d')))) (sym (ap (λ (y : Result Written (Stopped ℕ)). wrote y dev w' j') h) ∙ put)
+              ∙ sym (go_bind base lent (writing l) (λ d'. done (s', d')) start)
+              ∙ then_rest (Some s') at
 
-        pub unequal_to : {written : Written} → q ≡ Ok written → moved (Ok (record { from = s'; to = written.to; at = written.at })) dev w' j' ≡ go base lent tree start
-        unfolding moved wrote and_then go
-        unequal_to {written} h = ended (Ok written) h
+          pub unequal_to : {written : Written} → q ≡ Ok written
+              → moved (Ok (record { from = s'; to = written.to; at = written.at })) dev w' j' ≡ go base lent tree start
+          unfolding moved wrote and_then go
+          unequal_to {written} h = ended (Ok written) h
 
-        pub unequal_not : {stopped : Stopped ℕ} → q ≡ Err stopped → moved (Err stopped) dev w' j' ≡ go base lent tree start
-        unfolding moved wrote and_then
-        unequal_not {stopped} h = ended (Err stopped) h
+          pub unequal_not : {stopped : Stopped ℕ} → q ≡ Err stopped → moved (Err stopped) dev w' j' ≡ go base lent tree start
+          unfolding moved wrote and_then
+          unequal_not {stopped} h = ended (Err stopped) h

@@ -54,7 +54,8 @@ module _ (left rest doff dmod size d : ℕ) (got : List ℕ) (o : ℕ) (more : l
   write_bursts_on h = sizes_on 4 (sym (min-eq_right h))
 
   -- a size that is one unit
-  pub write_single_on : 0 < size → size ≤ 4 → d < 2 ^ 32 → {v : ℕ} → v ≡ number (part got o size) → store window d size v >> after ≡ write_sizes left doff dmod size d got o
+  pub write_single_on : 0 < size → size ≤ 4 → d < 2 ^ 32 → {v : ℕ} → v ≡ number (part got o size)
+      → store window d size v >> after ≡ write_sizes left doff dmod size d got o
   unfolding unit_of
   write_single_on h k l q =
       ap (λ (m : Act (Unit {0})). m >> after) (ap (store window d size) q ∙ sym (one_write size d got o h l)) ∙ sizes_on size (sym (min-eq_left k))

@@ -133,7 +133,10 @@ fn write_units<const WIDTH: usize>(
         d = words::modulo_add(d, sizes.off, sizes.modulo);
         pos += WIDTH;
     }
-    Ok(Written { to: d, at: journal_end })
+    Ok(Written {
+        to: d,
+        at: journal_end,
+    })
 }
 
 // One size of 16 or 32 bytes, which is written in units of 4.
@@ -180,7 +183,10 @@ fn write_bursts(
         d = words::modulo_add(d, sizes.off, sizes.modulo);
         pos += size as usize;
     }
-    Ok(Written { to: d, at: journal_end })
+    Ok(Written {
+        to: d,
+        at: journal_end,
+    })
 }
 
 fn write_sizes(

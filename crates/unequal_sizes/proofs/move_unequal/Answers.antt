@@ -1,9 +1,8 @@
 -- `unequal_sizes::move_unequal` meets its contract, by how the reads and the writes end. Assumes nothing.
-use Rattle.std.proofs.Common.{sym, ap, ◌∙◌, arith}
+use Rattle.std.proofs.Common.{ap, ◌∙◌}
 use Rattle.std.specs.Result.{result_ok}
-use lib.Seq.{length-take-le}
 use Rattle.act.proofs.Laws.{made_err, none_refused}
-use Rattle.unequal_sizes.proofs.Unequal.{unequal_short, unequal_unread, unequal_to, unequal_not, within_take}
+use Rattle.unequal_sizes.proofs.Unequal.{unequal_short, unequal_unread, unequal_to, unequal_not}
 use Rattle.unequal_sizes.proofs.move_unequal.Goals as goal
 
 pub returns-then-staging-all : goal.returns-then-staging-all

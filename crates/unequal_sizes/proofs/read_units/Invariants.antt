@@ -10,4 +10,5 @@ invariant-loop g l =
     (l.s < 2 ^ 32)
     × (length l.staging ≡ length l.initial.staging)
     × (l.len + (l.sizes.count - l.counter) * g.row.WIDTH ≡ l.sizes.count * g.row.WIDTH)
-    × Rests l.base l.window (read_sizes (l.sizes.count - l.counter) l.sizes.off l.sizes.modulo g.row.WIDTH l.s (take l.len l.staging)) (reads_of l.sizes g.row.WIDTH)
+    × Rests l.base l.window (read_sizes (l.sizes.count - l.counter) l.sizes.off l.sizes.modulo g.row.WIDTH l.s (take l.len l.staging))
+    (reads_of l.sizes g.row.WIDTH)

@@ -25,4 +25,5 @@ returns c lent d j e =
     let a = c.args in
     let l = c.loop-k in
     let all : a.len + a.count * 4 ≡ a.len + l.k * 4 = omega arith in
-    reads_end a.base lent d a.window.now j e a.count l.k 4 a.from (take (a.len + l.k * 4) l.staging) (omega arith) (l.invariant.1 lent d j e) (ap (λ n. take n l.staging) all)
+    reads_end a.base lent d a.window.now j e a.count l.k 4 a.from (take (a.len + l.k * 4) l.staging)
+    (omega arith) (l.invariant.1 lent d j e) (ap (λ n. take n l.staging) all)

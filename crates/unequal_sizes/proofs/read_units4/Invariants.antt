@@ -7,4 +7,5 @@ use Rattle.unequal_sizes.proofs.read_units4.Given as goal
 abbrev pub invariant-loop-k : goal.invariant-loop-k
 invariant-loop-k l =
     (length l.staging ≡ length l.initial.staging)
-    × Rests l.base l.window (read_units (l.count - l.k) l.k 4 l.from (take (l.len + l.k * 4) l.staging)) (read_units l.count 0 4 l.from (take l.len l.initial.staging))
+    × Rests l.base l.window (read_units (l.count - l.k) l.k 4 l.from (take (l.len + l.k * 4) l.staging))
+    (read_units l.count 0 4 l.from (take l.len l.initial.staging))

@@ -10,4 +10,5 @@ invariant-loop l =
     (length l.window ≡ length l.initial.window)
     × (length l.journal ≡ length l.initial.journal)
     × (l.pos + (l.sizes.count - l.counter) * l.size ≡ l.sizes.count * l.size)
-    × Remains l.base (write_sizes (l.sizes.count - l.counter) l.sizes.off l.sizes.modulo l.size l.d l.staging l.pos) l.journal_end l.window l.journal (writes_of l.sizes l.size l.staging) l.at l.initial.window l.initial.journal
+    × Remains l.base (write_sizes (l.sizes.count - l.counter) l.sizes.off l.sizes.modulo l.size l.d l.staging l.pos)
+    l.journal_end l.window l.journal (writes_of l.sizes l.size l.staging) l.at l.initial.window l.initial.journal

@@ -8,12 +8,3 @@ pub write_bursts-requires : goal.write_bursts-requires
 write_bursts-requires c =
     let p = c.requires in
     (bursting c.args.size p.0 (omega arith) (omega arith) (omega arith), p.0.most, whole-units c.args.size p.0 (omega arith) (omega arith), p.1)
-
-pub returns-in-1 : goal.returns-in-1
-returns-in-1 c = rw c.in-1.is c.write_units.ensures
-
-pub returns-in-2 : goal.returns-in-2
-returns-in-2 c = rw c.in-2.is c.write_units-in-2.ensures
-
-pub returns-in-4 : goal.returns-in-4
-returns-in-4 c = rw c.in-4.is c.write_units-in-4.ensures

@@ -1,5 +1,5 @@
 -- `unequal_sizes::write_units` meets its contract. A turn is the law of a size that is one unit. Assumes nothing.
-use Rattle.std.proofs.Common.{◌≡◌, ◌+◌, ◌-◌, ◌*◌, refl, arith, rules}
+use Rattle.std.proofs.Common.{◌+◌, ◌-◌, refl, arith, rules}
 use Rattle.act.proofs.Laws.{made_err}
 use Rattle.act.proofs.Loops.{turn_on, turn-off}
 use Rattle.unequal_sizes.proofs.Unequal.{fewer}
@@ -13,7 +13,9 @@ returns-in_err-journal_end g c lent d =
     let a = c.args in
     let l = c.loop in
     let p = c.requires.0 in
-    let turn = write_single_on (a.sizes.count - l.counter) (a.sizes.count - (l.counter + 1)) a.sizes.off a.sizes.modulo g.row.WIDTH l.d a.staging.now l.pos (omega arith) refl p.positive p.most l.invariant.0 c.get_width-v.ensures in
+    let turn =
+    write_single_on (a.sizes.count - l.counter) (a.sizes.count - (l.counter + 1)) a.sizes.off a.sizes.modulo g.row.WIDTH l.d a.staging.now l.pos
+    (omega arith) refl p.positive p.most l.invariant.0 c.get_width-v.ensures in
     rw (made_err c.from_residual.result c.from_residual.ensures)
     (turn-off a.base _ a.at _ _ _ _ turn _ _ l.journal_end l.invariant.4 _ _ c.store.ensures c.in_err-journal_end.was lent d)
 
@@ -22,7 +24,9 @@ loop-preserved g c =
     let a = c.args in
     let l = c.loop in
     let p = c.requires.0 in
-    let turn = write_single_on (a.sizes.count - l.counter) (a.sizes.count - (l.counter + 1)) a.sizes.off a.sizes.modulo g.row.WIDTH l.d a.staging.now l.pos (omega arith) c.modulo_add-d.ensures p.positive p.most l.invariant.0 c.get_width-v.ensures in (
+    let turn =
+    write_single_on (a.sizes.count - l.counter) (a.sizes.count - (l.counter + 1)) a.sizes.off a.sizes.modulo g.row.WIDTH l.d a.staging.now l.pos
+    (omega arith) c.modulo_add-d.ensures p.positive p.most l.invariant.0 c.get_width-v.ensures in (
       search rules,
       omega arith,
       omega arith,
@@ -34,4 +38,5 @@ pub returns : goal.returns
 returns g c lent dev =
     let a = c.args in
     let l = c.loop in
-    write_sizes_end a.base lent dev (a.sizes.count - l.counter) _ _ g.row.WIDTH l.d a.staging.now l.pos l.journal_end l.window l.journal (omega arith) (l.invariant.4 lent dev)
+    write_sizes_end a.base lent dev (a.sizes.count - l.counter) _ _ g.row.WIDTH l.d a.staging.now l.pos l.journal_end l.window l.journal
+    (omega arith) (l.invariant.4 lent dev)

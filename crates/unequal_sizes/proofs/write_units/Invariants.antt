@@ -11,4 +11,5 @@ invariant-loop g l =
     × (length l.window ≡ length l.initial.window)
     × (length l.journal ≡ length l.initial.journal)
     × (l.pos + (l.sizes.count - l.counter) * g.row.WIDTH ≡ l.sizes.count * g.row.WIDTH)
-    × Remains l.base (write_sizes (l.sizes.count - l.counter) l.sizes.off l.sizes.modulo g.row.WIDTH l.d l.staging l.pos) l.journal_end l.window l.journal (writes_of l.sizes g.row.WIDTH l.staging) l.at l.initial.window l.initial.journal
+    × Remains l.base (write_sizes (l.sizes.count - l.counter) l.sizes.off l.sizes.modulo g.row.WIDTH l.d l.staging l.pos)
+    l.journal_end l.window l.journal (writes_of l.sizes g.row.WIDTH l.staging) l.at l.initial.window l.initial.journal

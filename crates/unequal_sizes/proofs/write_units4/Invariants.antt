@@ -8,4 +8,5 @@ abbrev pub invariant-loop-k : goal.invariant-loop-k
 invariant-loop-k l =
     (length l.window ≡ length l.initial.window)
     × (length l.journal ≡ length l.initial.journal)
-    × Remains l.base (write_units (l.count - l.k) l.k 4 l.to l.staging l.pos) l.journal_end l.window l.journal (write_units l.count 0 4 l.to l.staging l.pos) l.at l.initial.window l.initial.journal
+    × Remains l.base (write_units (l.count - l.k) l.k 4 l.to l.staging l.pos)
+    l.journal_end l.window l.journal (write_units l.count 0 4 l.to l.staging l.pos) l.at l.initial.window l.initial.journal
