@@ -2,7 +2,7 @@
 #![tactic(auto)]
 
 ghost use Rattle.std.specs.Prelude.{◌≡◌};
-ghost use Rattle.act.specs.Parts.{core_of, held};
+ghost use Rattle.act.specs.Parts.{core_of};
 ghost use Rattle.act.specs.Worlds.{flow_of};
 
 use rules::{Controller, Device, Refusal, Scalars, Verdict};
@@ -67,34 +67,5 @@ pub fn core_of(d: Device) -> Core
         scalars,
         controllers,
         ignore_masks: d.ignore_masks,
-    }
-}
-
-// A device of these parts.
-pub fn device_of(
-    k: Core,
-    table: [u8; 2048],
-    busy: [u64; 64],
-    majors: [u64; 64],
-    pending: [u32; 64],
-    taken: [u64; 192],
-    priorities: [u8; 64],
-    chip: bool,
-) -> Device
-    ensures { result ≡ held k (record { table = table; busy = busy; majors = majors; pending = pending; taken = taken; priorities = priorities; chip = chip }) }
-{
-    let scalars = k.scalars;
-    let controllers = k.controllers;
-    Device {
-        scalars,
-        table,
-        busy,
-        majors,
-        taken,
-        pending,
-        priorities,
-        controllers,
-        ignore_masks: k.ignore_masks,
-        chip,
     }
 }

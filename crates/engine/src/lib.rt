@@ -325,15 +325,21 @@ pub fn run(
         journal,
         used,
     );
-    let core = r.core;
-    let verdict = r.verdict;
-    let taken = d.taken;
+    let scalars = r.core.scalars;
+    let controllers = r.core.controllers;
     Acted {
-        verdict,
+        verdict: r.verdict,
         used: r.used,
-        device: act::device_of(
-            core, table, busy, majors, pending, taken, priorities, d.chip,
-        ),
+        device: Device {
+            scalars,
+            controllers,
+            ignore_masks: r.core.ignore_masks,
+            table,
+            busy,
+            majors,
+            pending,
+            ..d
+        },
     }
 }
 
@@ -372,14 +378,20 @@ pub fn service(
         journal,
         used,
     );
-    let core = r.core;
-    let verdict = r.verdict;
-    let taken = d.taken;
+    let scalars = r.core.scalars;
+    let controllers = r.core.controllers;
     Acted {
-        verdict,
+        verdict: r.verdict,
         used: r.used,
-        device: act::device_of(
-            core, table, busy, majors, pending, taken, priorities, d.chip,
-        ),
+        device: Device {
+            scalars,
+            controllers,
+            ignore_masks: r.core.ignore_masks,
+            table,
+            busy,
+            majors,
+            pending,
+            ..d
+        },
     }
 }

@@ -289,7 +289,6 @@ pub fn write(
 ) -> Acted
     ensures { (Made (write_call address size value) (view d) used result ⇒ journal) × Spared result.verdict d.priorities result.device.priorities }
 {
-    let chip = d.chip;
     let mut table = d.table;
     let pending = d.pending;
     let mut priorities = d.priorities;
@@ -298,22 +297,26 @@ pub fn write(
         address,
         size,
         value,
-        chip,
+        d.chip,
         &mut table,
         &pending,
         &mut priorities,
         journal,
         used,
     );
-    let core = r.core;
-    let verdict = r.verdict;
-    let busy = d.busy;
-    let majors = d.majors;
-    let taken = d.taken;
+    let scalars = r.core.scalars;
+    let controllers = r.core.controllers;
     Acted {
-        verdict,
+        verdict: r.verdict,
         used: r.used,
-        device: act::device_of(core, table, busy, majors, pending, taken, priorities, chip),
+        device: Device {
+            scalars,
+            controllers,
+            ignore_masks: r.core.ignore_masks,
+            table,
+            priorities,
+            ..d
+        },
     }
 }
 
@@ -361,19 +364,17 @@ pub fn inputs(
         journal,
         used,
     );
-    let core = r.core;
-    let verdict = r.verdict;
-    let table = d.table;
-    let busy = d.busy;
-    let majors = d.majors;
-    let taken = d.taken;
-    let priorities = d.priorities;
+    let scalars = r.core.scalars;
+    let controllers = r.core.controllers;
     Acted {
-        verdict,
+        verdict: r.verdict,
         used: r.used,
-        device: act::device_of(
-            core, table, busy, majors, pending, taken, priorities, d.chip,
-        ),
+        device: Device {
+            scalars,
+            controllers,
+            ignore_masks: r.core.ignore_masks,
+            ..d
+        },
     }
 }
 
@@ -420,19 +421,20 @@ pub fn pending_in(
 pub fn pending(d: Device, channel: u32, count: u32, journal: &mut [u8], used: usize) -> Acted
     ensures { (Made (pending_call channel count) (view d) used result ⇒ journal) × Spared result.verdict d.priorities result.device.priorities }
 {
-    let mut counts = d.pending;
-    let r = pending_in(act::core_of(d), channel, count, &mut counts, journal, used);
-    let core = r.core;
-    let verdict = r.verdict;
-    let table = d.table;
-    let busy = d.busy;
-    let majors = d.majors;
-    let taken = d.taken;
-    let priorities = d.priorities;
+    let mut pending = d.pending;
+    let r = pending_in(act::core_of(d), channel, count, &mut pending, journal, used);
+    let scalars = r.core.scalars;
+    let controllers = r.core.controllers;
     Acted {
-        verdict,
+        verdict: r.verdict,
         used: r.used,
-        device: act::device_of(core, table, busy, majors, counts, taken, priorities, d.chip),
+        device: Device {
+            scalars,
+            controllers,
+            ignore_masks: r.core.ignore_masks,
+            pending,
+            ..d
+        },
     }
 }
 
@@ -486,21 +488,18 @@ pub fn acknowledge(d: Device, ipl: u8, journal: &mut [u8], used: usize) -> Ackno
 {
     let mut taken = d.taken;
     let r = acknowledge_in(act::core_of(d), ipl, &mut taken, journal, used);
-    let done = r.done;
-    let heard = r.heard;
-    let core = done.core;
-    let verdict = done.verdict;
-    let table = d.table;
-    let busy = d.busy;
-    let majors = d.majors;
-    let pending = d.pending;
-    let priorities = d.priorities;
+    let scalars = r.done.core.scalars;
+    let controllers = r.done.core.controllers;
     Acknowledged {
-        verdict,
-        heard,
-        used: done.used,
-        device: act::device_of(
-            core, table, busy, majors, pending, taken, priorities, d.chip,
-        ),
+        verdict: r.done.verdict,
+        heard: r.heard,
+        used: r.done.used,
+        device: Device {
+            scalars,
+            controllers,
+            ignore_masks: r.done.core.ignore_masks,
+            taken,
+            ..d
+        },
     }
 }

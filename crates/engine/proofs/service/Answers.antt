@@ -3,14 +3,13 @@ use Rattle.act.proofs.Whole.{whole-told}
 use Rattle.act.specs.Parts.{arrays_of, working}
 use Rattle.rules.proofs.Each.{typed_proper}
 use Rattle.rules.specs.Calls.{service}
-use Rattle.rules.specs.declared.Device.{Device}
-use mathlib.Core.Path.{ap}
+use mathlib.Core.Path.{refl}
 use Rattle.engine.proofs.service.Goals as goal
 
 pub returns : goal.returns
 returns c =
     let a = c.args in (
       whole-told (service a.time a.pace) a.base a.d (working (arrays_of a.d) _ _ _ _) _ _ _ _ _ _ a.used _ c.run_in-r.result c.core_of.ensures
-          (c.run_in-r.ensures (arrays_of a.d) (rw c.core_of.ensures (typed_proper a.d c.well_formed.0))) c.device_of.ensures,
-      λ n e. ap (λ (d : Device). d.priorities) c.device_of.ensures,
+          (c.run_in-r.ensures (arrays_of a.d) (rw c.core_of.ensures (typed_proper a.d c.well_formed.0))) refl,
+      λ n e. refl,
     )

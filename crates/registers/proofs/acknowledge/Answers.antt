@@ -2,9 +2,8 @@
 use Rattle.act.proofs.Whole.{whole_heard}
 use Rattle.act.specs.Parts.{arrays_of, taking}
 use Rattle.rules.proofs.Each.{typed_proper}
-use Rattle.rules.specs.declared.Device.{Device}
 use Rattle.rules.specs.Calls.{ack}
-use mathlib.Core.Path.{ap}
+use mathlib.Core.Path.{refl}
 use Rattle.registers.proofs.acknowledge.Goals as goal
 
 pub returns : goal.returns
@@ -12,6 +11,6 @@ returns c =
     let a = c.args in (
       λ base w staging.
           whole_heard (ack a.ipl) base a.d (taking (arrays_of a.d) _) w staging _ w staging _ a.used _ c.acknowledge_in-r.result.done c.core_of.ensures c.acknowledge_in-r.result.heard
-          (c.acknowledge_in-r.ensures (arrays_of a.d) (rw c.core_of.ensures (typed_proper a.d c.well_formed.0)) base w staging) c.device_of.ensures,
-      λ n v. ap (λ (d : Device). d.priorities) c.device_of.ensures,
+          (c.acknowledge_in-r.ensures (arrays_of a.d) (rw c.core_of.ensures (typed_proper a.d c.well_formed.0)) base w staging) refl,
+      λ n v. refl,
     )
