@@ -81,17 +81,17 @@ pub fn loudest(levels: &[u8], m: u64) -> u8
 pub fn level_of(k: Controller, ignore: bool) -> u8
     ensures { result ≡ level_in ignore (view_controller k) }
 {
-    let levels = k.levels;
-    loudest(&levels, deliverable(k, ignore))
+    loudest(&k.levels, deliverable(k, ignore))
 }
 
 // A controller with the lines that INT drives; the others stay.
 fn driven_by(int: u64, c: usize, k: Controller) -> Controller
     ensures { view_controller result ≡ with_lines (view_controller k) (driven c int k.lines) }
 {
-    let mut e = k;
-    e.lines = driven(c, int, k.lines);
-    e
+    Controller {
+        lines: driven(c, int, k.lines),
+        ..k
+    }
 }
 
 // Controllers with their lines, and the level.
@@ -136,6 +136,7 @@ pub fn update_irq(k: Core) -> Core
 // ---- acknowledge
 
 // A level and where it was found; level 0: nowhere.
+// Stays a pair with a 0: it was tried as Option<Loud>, and an acknowledge took twice the time.
 #[derive(Clone, Copy)]
 pub struct Loud {
     pub level: u8,
@@ -201,10 +202,9 @@ pub fn heard_from(ipl: u8, c: usize, k: Controller, ignore: bool, below: Loud) -
     requires { (c < 3) × (below.at < 192) }
     ensures { (found result ≡ above c (loud_in ipl ignore (view_controller k)) (found below)) × (result.at < 192) }
 {
-    let levels = k.levels;
     above(
         c,
-        loudest_above(ipl, &levels, deliverable(k, ignore)),
+        loudest_above(ipl, &k.levels, deliverable(k, ignore)),
         below,
     )
 }
@@ -266,9 +266,10 @@ pub fn waiting(standing: u64, pending: &[u32]) -> u64
 fn given(lines: u64, c: usize, k: Controller) -> Controller
     ensures { view_controller result ≡ with_lines (view_controller k) (owned_from c k.lines lines) }
 {
-    let mut e = k;
-    e.lines = owned_from(c, k.lines, lines);
-    e
+    Controller {
+        lines: owned_from(c, k.lines, lines),
+        ..k
+    }
 }
 
 // "Device inputs: standing request mask and three line masks. [..] Then KICK gains every requesting channel with its ERQ bit set."

@@ -14,12 +14,6 @@ byte_known-requires c = in_table_lem _ c.within.ensures c.if-within.false
 pub word_known-requires : goal.word_known-requires
 word_known-requires c = in_table_lem _ c.within.ensures c.if-within.false
 
-pub returns-in-1 : goal.returns-in-1
-returns-in-1 c v = rw c.in-1.is (c.byte_known.ensures v)
-
-pub returns-in-4 : goal.returns-in-4
-returns-in-4 c v = rw c.in-4.is (c.word_known.ensures v)
-
 pub returns-in_default : goal.returns-in_default
 unfolding is_none
 returns-in_default c v = rw (write_none _ v (in_table_lem _ c.within.ensures c.if-within.false) _ c.in_default.in_default-own.rest.0.1 c.in_default.in_default-own.rest.1)

@@ -26,12 +26,6 @@ byte_written-requires c = (in_table_lem _ c.within.ensures c.if-within.false, rw
 pub word_written-requires : goal.word_written-requires
 word_written-requires c = in_table_lem _ c.within.ensures c.if-within.false
 
-pub returns-in-1 : goal.returns-in-1
-returns-in-1 c base lent d w m e = rw c.in-1.is (c.byte_written.ensures base lent d w m e)
-
-pub returns-in-4 : goal.returns-in-4
-returns-in-4 c base lent d w m e = rw c.in-4.is (c.word_written.ensures base lent d w m e)
-
 pub returns-in_default : goal.returns-in_default
 unfolding or_nothing
 returns-in_default c base lent d w m e =
