@@ -2,11 +2,5 @@
 use Rattle.intc.proofs.WriteLaws.{written_none, command_none}
 use Rattle.intc.proofs.command_written.Goals as goal
 
-pub returns-in-1 : goal.returns-in-1
-returns-in-1 c = rw c.in-1.is c.byte_written.ensures
-
-pub returns-in-2 : goal.returns-in-2
-returns-in-2 c = rw c.in-2.is c.half_written.ensures
-
 pub returns-in_default : goal.returns-in_default
 returns-in_default c = written_none _ _ (λ i. command_none _ _ i _ c.in_default.in_default-own.rest.0.1 c.in_default.in_default-own.rest.1)
