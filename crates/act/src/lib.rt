@@ -42,7 +42,8 @@ pub type Walk = Result<usize, Stopped<usize>>;
 // ---- a device in parts
 
 // What of a device is short: its numbers, its controllers and whether masks are ignored. A call hands it on by value; the long arrays are lent to whom they
-// concern.
+// concern. (One by one, and not in a struct of references: that was tried, and each contract has to say of each part, besides what it says now, that the
+// loan in it is still the one that was lent.)
 #[derive(Clone, Copy)]
 pub struct Core {
     pub scalars: Scalars,

@@ -122,6 +122,7 @@ pub fn choose(ready: u64, priorities: &[u8; 64]) -> usize
     let mut left = ready;
     let mut best = 64;
     let mut top = 0;
+    // (no `for`: it walks the set bits of a mask, and counts nothing)
     while left != 0 {
         let ch = words::lowest_bit(left);
         left = words::lose_bit(left, ch);

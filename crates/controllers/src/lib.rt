@@ -69,6 +69,7 @@ pub fn loudest(levels: &[u8], m: u64) -> u8
 {
     let mut best: u8 = 0;
     let mut p = m;
+    // (no `for`: it walks the set bits of a mask, and counts nothing)
     while p != 0 {
         let s = words::lowest_bit(p);
         best = best.max(levels[s] % 8);
@@ -172,6 +173,7 @@ pub fn loudest_above(ipl: u8, levels: &[u8], m: u64) -> Loud
 {
     let mut best = Loud { level: 0, at: 0 };
     let mut p = m;
+    // (no `for`: it walks the set bits of a mask, and counts nothing)
     while p != 0 {
         let s = words::highest_bit(p);
         best = louder(ipl, levels[s] % 8, s, best);

@@ -58,7 +58,7 @@ fn scalar_command(n: Scalars, pending: &[u32; 64], k: u32, v: u32) -> Scalars
     }
 }
 
-// KICK gains the channels in `m`, where `on`.
+// KICK gains the channels in `m`, where `on`: a fact that the caller worked out, as are those of crate `major_end`.
 pub fn with_kick(s: Step, on: bool, m: u64) -> Step
     ensures { OnScalars (when on (change KICK (λ k. bit_or k m))) s result }
 {

@@ -41,7 +41,8 @@ fn idle(again: bool, kick: u64) -> bool
     again && kick == 0
 }
 
-// The turns of a run, or those that follow a service (`again`), as the mode makes them.
+// The turns of a run, or those that follow a service (`again`), as the mode makes them. (Both stay values that are asked, and no functions handed in: the
+// mode is a field of the device, and each contract says in one line what holds for a run and for a service.)
 fn take_turns(
     again: bool,
     chip: bool,

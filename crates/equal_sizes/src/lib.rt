@@ -77,7 +77,8 @@ pub fn store(
     Ok(at + 16)
 }
 
-// ---- a unit moved
+// ---- a unit moved. (That a width is one of memory's, and a size one of the five, stay clauses: a const parameter has no invariant, and the rules' trees take
+// both as numbers.)
 
 fn move_unit<const WIDTH: usize>(
     base: u32,

@@ -295,7 +295,7 @@ fn put_taken(image: &mut [u8], d: Device)
     put_priorities(image, d);
 }
 
-// The whole image of a device.
+// The whole image of a device. (That it has 8,720 bytes stays a clause here and below: the entries are lent slices, whose length `is_image` tests.)
 pub fn put_device(image: &mut [u8], d: Device)
     requires { length image.old ≡ 8720 }
     ensures { image.new ≡ image_of (view d) }

@@ -13,7 +13,7 @@ ghost use Rattle.journal.specs.Undoing.{Undone, undo_as, undo_line, undo_lines, 
 use act::{Flow, Step, Stopped};
 use rules::Refusal;
 
-// ---- records
+// ---- records. (That one lies within the journal stays a clause: it is read and laid down where it lies, among others, by its place.)
 
 // "Each is 16 bytes: mark 4A 52, kind, width, 4-byte place, 8-byte old value (big-endian, zeros in front)."
 pub fn put_record(journal: &mut [u8], at: usize, kind: u8, width: u8, place: u32, value: u64)

@@ -394,7 +394,7 @@ fn origin_in(p: Plan, w: Walk) -> u64
 
 // ---- records
 
-// An access as a record has it.
+// An access as a record has it: a read, or else a write. (There is no third kind, and no value beside it that only one of the two has.)
 #[derive(Clone, Copy)]
 pub struct Seen {
     pub read: bool,

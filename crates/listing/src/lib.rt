@@ -57,7 +57,8 @@ fn is_marked(journal: &[u8], at: usize) -> bool
     journal[at] == 0x4A && journal[at + 1] == 0x52
 }
 
-// The lines of the first `count` records, up to the first with a wrong mark; how many there are.
+// The lines of the first `count` records, up to the first with a wrong mark; how many there are. (`count` stands beside the piece, since what is cut short
+// of a record behind them is in the piece too.)
 pub fn list(journal: &[u8], count: usize, out: &mut [u8]) -> usize
     requires { (count * 16 ≤ length journal.now) × (count * 33 ≤ length out.old) }
     ensures { Listed count result journal.now out.old out.new }

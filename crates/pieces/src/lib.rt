@@ -36,7 +36,8 @@ pub fn fail<E: Write>(notes: &mut E, what: &[u8], why: io::Error) {
     let _ = write_reason(notes, what, why);
 }
 
-// One read, behind the bytes that are there; why it failed goes to `notes`.
+// One read, behind the bytes that are there; why it failed goes to `notes`. (It is given the whole piece, and not what is free of it, since it promises that
+// what is there stays.)
 fn read_more<F: Read, E: Write>(
     file: &mut F,
     notes: &mut E,
@@ -73,6 +74,7 @@ pub fn fill<F: Read, E: Write>(
     ensures end { IfOk result (λ n. n < length buf.old → IsAtEnd (F.remaining file.new)) }
 {
     let mut have = 0;
+    // (no `for`: it counts bytes that came, and a read brings as many as it will)
     while have < buf.len() {
         let n = read_more(file, notes, path, buf, have)?;
         if n == 0 {
@@ -83,7 +85,7 @@ pub fn fill<F: Read, E: Write>(
     Ok(have)
 }
 
-// Whether the file now stands at this place; why it does not goes to `notes`.
+// Whether the file now stands at this place; why it does not goes to `notes`. (A bool: a caller learns nothing else, and has no value to be without.)
 fn seek_to<F: Seek, E: Write>(file: &mut F, notes: &mut E, path: &[u8], place: i64) -> bool {
     match file.seek(SeekFrom::Start(place.cast_unsigned())) {
         Ok(at) => at == place.cast_unsigned(),

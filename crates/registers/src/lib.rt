@@ -38,6 +38,8 @@ fn block_of(address: u32) -> u32
     (address - 0xFC044000) / 0x4000
 }
 
+// (A size, here and in the crates below, stays the number of bytes that it is, and no enum: offsets are added to it, and the rules' arms compare it.)
+
 // 4: "descriptor access past offset 0x17FF".
 fn past_end(off: u32, size: u32) -> bool
     requires { (off < 0x4000) × (bad_size size ≡ false) }
@@ -128,13 +130,6 @@ fn kept(chip: bool, value: u32) -> u8
     (value % 64) as u8
 }
 
-// A byte as a word.
-fn wide(x: u8) -> u32
-    ensures { result ≡ x }
-{
-    x as u32
-}
-
 // A priority, one of the "six-bit fields 768 + channel". No other can have changed, so one is kept and one is noted. After a refusal the byte is as it
 // was, with those bits of it that count for nothing.
 fn write_priority(
@@ -153,7 +148,7 @@ fn write_priority(
         return refused(k, Refusal::Journal, used);
     }
     let before = priorities[channel as usize];
-    let old = kept(chip, wide(before));
+    let old = kept(chip, u32::from(before));
     let after = kept(chip, value);
     priorities[channel as usize] = after;
     let scalars = k.scalars;

@@ -35,6 +35,9 @@ pub const ACTIVE: usize = 6;
 
 pub const DONE: usize = 7;
 
+// (A channel is a number below 64 and a controller one below 3, and neither is a type of its own: they are what masks, tables and records are indexed by,
+// so that a type would be opened at nearly every use.)
+
 // The channel that is paced: its passes are a line's.
 pub const LINE: usize = 35;
 

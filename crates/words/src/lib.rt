@@ -180,6 +180,7 @@ pub fn put<W: Word>(s: &mut [u8], at: usize, v: W)
 }
 
 // ---- counts. "If bit 15 of a count is set, the count is its low 9 bits and bits 14..9 the link; else it is the low 15 bits with no link."
+// (Whether there is a link and which stay two questions, and no Option: the chip's turns ask for the link whether it counts or not.)
 
 pub fn is_linked(raw: u16) -> bool
     ensures { result ≡ linked raw }

@@ -36,7 +36,7 @@ returns-in_default c =
       λ x p base w staging.
           accepts _ base (whole a.k (ordered x a.priorities.now a.chip)) w staging _ a.used (nothing-wrong (some act) _ _ refl refl fair)
           (priority_unmade a.k _ x a.chip a.priorities.now a.channel a.value a.used a.journal.now p (used_fits _ _ refl fair) c.settle-s.ensures c.begun.ensures c.note_core-numbers.ensures
-          (c.kept-old.ensures ∙ ap (λ (v : ℕ). v % 2 ^ bits_in a.chip (PRIORITY 0)) c.wide.ensures) c.kept-after.ensures c.note_priority-order.ensures c.note_end.ensures c.done-r.result c.done-r.ensures base w staging
+          (c.kept-old.ensures ∙ ap (λ (v : ℕ). v % 2 ^ bits_in a.chip (PRIORITY 0)) c.from.ensures) c.kept-after.ensures c.note_priority-order.ensures c.note_end.ensures c.done-r.result c.done-r.ensures base w staging
           c.in_default.is (put_back _ a.channel _) c.clear.ensures),
       λ n e. put_back _ a.channel _,
     )
@@ -50,7 +50,7 @@ returns c =
       λ x p base w staging.
           accepts _ base (whole a.k (ordered x a.priorities.now a.chip)) w staging _ a.used (nothing-wrong (some act) _ _ refl refl fair)
           (priority_made a.k _ x a.chip a.priorities.now a.channel a.value a.used a.journal.now p (used_fits _ _ refl fair) c.settle-s.ensures c.begun.ensures c.note_core-numbers.ensures
-          (c.kept-old.ensures ∙ ap (λ (v : ℕ). v % 2 ^ bits_in a.chip (PRIORITY 0)) c.wide.ensures) c.kept-after.ensures c.note_priority-order.ensures c.note_end.ensures c.done-r.result c.done-r.ensures base w staging
+          (c.kept-old.ensures ∙ ap (λ (v : ℕ). v % 2 ^ bits_in a.chip (PRIORITY 0)) c.from.ensures) c.kept-after.ensures c.note_priority-order.ensures c.note_end.ensures c.done-r.result c.done-r.ensures base w staging
           c.in-Ok.is),
       accepted_spares c.in-Ok.is,
     )
