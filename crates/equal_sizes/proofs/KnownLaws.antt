@@ -1,6 +1,6 @@
 -- Units that are known to lie in the window: what a place says, the test's numbers, a turn of the loop without tests, and sizes of 16 and 32
 -- bytes as units of 4. Assumes nothing.
-use Rattle.std.proofs.Common.{◌≡◌, ℕ, zero, suc, ◌+◌, ◌-◌, ◌*◌, ◌/◌, ◌%◌, ◌^◌, ◌<◌, ◌≤◌, true, leb, List, length, sym, refl, ap, ◌∙◌, inl, inr, add-zero, mod-lt, mod-eq_of_lt, suc-mul, mul-le-mul, suc-add, zero-add, zero-mul, suc-ne-zero, arith, lit<, lit≤, leb-true, Some}
+use Rattle.std.proofs.Common.{◌≡◌, ℕ, zero, suc, ◌+◌, ◌-◌, ◌*◌, ◌/◌, ◌%◌, ◌^◌, ◌<◌, ◌≤◌, true, leb, List, length, sym, refl, ap, ◌∙◌, inl, inr, add-zero, mod-lt, mod-eq_of_lt, suc-mul, mul-le-mul, suc-add, zero-add, zero-mul, arith, lit<, lit≤, leb-true, Some}
 use Rattle.rules.specs.Act.{Act, window, ◌>>=◌, ◌>>◌, fetch, store}
 use Rattle.rules.specs.Bytes.{bytes, number, part, splice}
 use Rattle.rules.specs.Calls.{world_of}

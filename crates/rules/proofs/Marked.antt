@@ -8,7 +8,6 @@ use Prim.Native.Nat.{ℕ, ◌-◌, ◌^◌}
 use lib.Count.{count_trailing_zeros}
 use lib.ListN.{replicate}
 use Rattle.rules.specs.State.{Device}
-use Rattle.rules.specs.Verdicts.{Heard}
 use Rattle.rules.specs.declared.Tcd.{Tcd}
 use Rattle.rules.specs.Act.{Act, Done, Endless, Stage, Fetch, Store, Ask, Put, Look, acts, FORCED, MAJORS, PENDING, SOURCE}
 use Rattle.rules.specs.Scalars.{ERQ, KICK}

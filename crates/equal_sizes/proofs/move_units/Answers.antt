@@ -1,6 +1,6 @@
 -- `equal_sizes::move_units` meets its contract. The loop's invariant: what is left to move from here is the whole
 -- from the start. A turn is the law of a size that is one unit. Assumes nothing.
-use Rattle.std.proofs.Common.{◌+◌, ◌-◌, refl, ap, arith, rules}
+use Rattle.std.proofs.Common.{◌+◌, ◌-◌, refl, arith, rules}
 use native.Mathlib.Nat.{sub-zero}
 use Rattle.rules.specs.Minor.{move_unit}
 use Rattle.act.proofs.Laws.{made_err}

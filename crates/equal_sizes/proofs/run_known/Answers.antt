@@ -1,6 +1,6 @@
 -- `equal_sizes::run_known` meets its contract. The loop's invariant: what is left to move from here is the whole from the start, and is known to
 -- lie in the window with room for its records. Assumes nothing.
-use Rattle.std.proofs.Common.{◌≡◌, ◌+◌, ◌-◌, refl, ◌∙◌, arith, rules}
+use Rattle.std.proofs.Common.{◌≡◌, ◌+◌, ◌-◌, refl, arith, rules}
 use native.Mathlib.Nat.{sub-zero}
 use Rattle.rules.specs.Minor.{move_unit}
 use Rattle.words.proofs.Laws.{modulo_none}

@@ -1,7 +1,6 @@
 -- `journal::undo_stores` meets its contract. The loop's invariant: what is left to undo from here gives what undoing all gives from the start. Assumes nothing.
 use Rattle.journal.proofs.UndoLaws.{undo-turn, undo_none}
 use native.Mathlib.Omega.{arith}
-use native.Mathlib.Nat.{sub-zero}
 use mathlib.Core.Path.{refl, sym, ◌∙◌}
 use Rattle.journal.proofs.undo_stores.Goals as goal
 

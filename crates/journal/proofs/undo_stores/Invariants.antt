@@ -2,7 +2,6 @@
 use Rattle.journal.specs.Undoing.{machine_of, undo_lines}
 use Rattle.rules.specs.State.{Device}
 use lib.ListN.{length, drop}
-use Prim.Native.Nat.{◌-◌, ◌≤◌}
 use mathlib.Core.Path.{◌≡◌}
 use Rattle.journal.proofs.undo_stores.Given as goal
 

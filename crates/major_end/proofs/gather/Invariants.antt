@@ -1,5 +1,5 @@
 -- `major_end::gather` meets its contract. The loop's invariant: what is left to gather, behind the i bytes
-use Rattle.std.proofs.Common.{◌≡◌, ℕ, ◌+◌, ◌-◌, ◌≤◌, List, [], length, take}
+use Rattle.std.proofs.Common.{◌≡◌, ℕ, ◌+◌, ◌-◌, List, [], length, take}
 use Rattle.rules.specs.Carry.{Lent}
 use Rattle.rules.specs.Act.{Act, ◌>>=◌}
 use Rattle.rules.specs.Minor.{gather}

@@ -1,6 +1,5 @@
 -- `capture_file::course::Records::judge_pieces` meets its contract: what is safe stays so, and the measure is how many more records a file could have.
 -- Assumes nothing.
-use Rattle.std.proofs.Common.{◌-◌, ◌^◌}
 use Rattle.judge.specs.Walks.{Safe}
 use Rattle.capture_file.proofs.course.Records.judge_pieces.Given as goal
 
