@@ -1,4 +1,5 @@
-// Answers as numbers: document 01's number for each case of the answers' enums; and an entry's whole answer in one number (docs/ABI.md).
+// Answers as numbers: document 01's number for each case of an answer; and an entry's whole answer in one number (docs/ABI.md). What is a number here is
+// so for C: 0 where there is none, 22 for a malformed record, and 255, the entries' own. Refusals go arm by arm, as the documents list them: an edit turns one.
 #![tactic(auto)]
 
 ghost use Rattle.std.specs.Prelude.{◌≡◌};

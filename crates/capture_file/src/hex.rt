@@ -1,4 +1,4 @@
-// Hexadecimal digits, in either case.
+// Hexadecimal digits, in either case. (By hand: the contracts say what each digit and each text spells.)
 ghost use Rattle.std.specs.Prelude.{◌≡◌, ◌%◌, ◌<◌, ℕ, length, slice_index};
 ghost use Rattle.capture_file.specs.Hex.{nibble_of, digit_in, digits_from, spelled_from, byte_of};
 

@@ -29,7 +29,6 @@ use Rattle.act.specs.declared.Stopped.{Stopped}
 use Rattle.minor.specs.Passes.{passed, Passes}
 use Rattle.channel.specs.Goes.{lined}
 use Rattle.channel.specs.Offers.{offered_in}
-use Rattle.channel.specs.declared.Line.{Line}
 use Rattle.channel.proofs.Reading.{tcd_in, descriptor_read, offered_at, offered_read}
 
 -- ---- a pass, by how it ends

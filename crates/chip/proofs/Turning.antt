@@ -22,13 +22,12 @@ use Rattle.rules.specs.State.{Device}
 use Rattle.rules.specs.View.{view_priorities}
 use Rattle.rules.specs.With.{with_scalars, with_table, with_majors}
 use Rattle.rules.specs.Words.{has, gain, lose}
-use Rattle.rules.specs.declared.Refusal.{Refusal}
 use Rattle.rules.specs.declared.Scalars.{Scalars}
 use Rattle.rules.proofs.Proper.{Proper}
 use Rattle.rules.proofs.Leads.{IfAnswered, proper_kept}
 use Rattle.rules.proofs.Linked.{Flags, turn_spares}
 use Rattle.rules.proofs.Steps.{putting, go-done, bind_ok, bind_no, then_ok, change-does}
-use Rattle.act.specs.Worlds.{world, came_to}
+use Rattle.act.specs.Worlds.{came_to}
 use Rattle.act.specs.declared.Flow.{Flow}
 use Rattle.act.specs.Worlds.{Step}
 use Rattle.minor.specs.Passes.{passed, Passes}

@@ -45,7 +45,7 @@ fn note_one(at: usize, n: u32, before: u64, after: u64, journal: &mut [u8]) -> N
     note(at, 2, 8, n, before, journal)
 }
 
-// The same after other records. (The place is taken out and put in again: handing on `s` whole copies its padding too, which is slow.)
+// The same after other records. (The place is taken out and comes in again: handing on `s` whole copies its padding too, which is slow.)
 fn note_field(s: Noted, n: u32, before: u64, after: u64, journal: &mut [u8]) -> Noted
     ensures { Notes n (before ∷ []) (after ∷ []) s result ⇒ journal }
 {
@@ -200,6 +200,8 @@ fn note_all<T: Element>(
     let i = blocks * BLOCK;
     note_each(at, &before[i..], &after[i..], first + i as u32, journal)
 }
+
+// (Each array has a function of its own: it has its number, its length and its type, and callers name what they note.)
 
 // "64+ch busy". Few runs change any, so all are looked at together first.
 pub fn note_busy(s: Noted, before: &[u64; 64], after: &[u64; 64], journal: &mut [u8]) -> Noted

@@ -32,7 +32,7 @@ pub struct Fed {
     pub controllers: [Controller; 3],
 }
 
-// What of a device is short, as an entry copies it.
+// What of a device is short, as an entry copies it: a core, and the mode, which the calls are given apart from it.
 #[derive(Clone, Copy)]
 pub struct Short {
     pub scalars: Scalars,

@@ -131,7 +131,7 @@ fn clear_dones(s: Step, table: &mut [u8; 2048], v: u32, journal: &mut [u8]) -> S
 
 // ---- any command
 
-// The command byte at 0x18 + `k`, after what came before.
+// The command byte at 0x18 + `k`, after what came before. (`k` stays the offset that the rules' `command` takes: four bytes of a word are k to k + 3.)
 pub fn command(
     s: Step,
     table: &mut [u8; 2048],

@@ -12,7 +12,7 @@ ghost use Rattle.dma_read.specs.Access.{Fair};
 use intc::Cell;
 use rules::Device;
 
-// `size` bytes of the table, as a big-endian number.
+// `size` bytes of the table, as a big-endian number. (By hand: `words::get_width` answers 64 bits, of any width that a record has.)
 pub fn tcd_read(d: Device, off: u32, size: u32) -> u32
     requires { (bad_size size ≡ false) × (off + size ≤ 2048) }
     ensures { result ≡ number (part d.table off size) }

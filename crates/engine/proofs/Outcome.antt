@@ -13,9 +13,7 @@ use Rattle.rules.specs.Calls.{told, refusal_number, levelled, world_of, told_aft
 use Rattle.rules.specs.Carry.{Machine, World, changed, go, unmade, cleared, perform, Lent, lending}
 use Rattle.rules.specs.Fields.{fields_of}
 use Rattle.rules.specs.State.{Device}
-use Rattle.rules.specs.Verdicts.{Heard}
 use Rattle.rules.specs.declared.Refusal.{Refusal}
-use Rattle.rules.specs.Verdicts.{Verdict}
 use Rattle.rules.proofs.Proper.{Proper}
 use Rattle.rules.proofs.Keeps.{AtEnd, Good}
 use Rattle.rules.proofs.Took.{Underway, go_underway}

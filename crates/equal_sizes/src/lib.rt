@@ -1,5 +1,5 @@
-// Transfers of equal sizes: "read and write unit by unit, in rising k, rounding up to whole sizes". There is one loop for each unit size, and
-// the width in it is a constant, so that a unit compiles to plain loads and stores. Most transfers take a quick way, on which no unit asks where
+// Transfers of equal sizes: "read and write unit by unit, in rising k, rounding up to whole sizes". Each unit size compiles to a loop of its own,
+// in which the width is a constant, so that a unit is plain loads and stores. Most transfers take a quick way, on which no unit asks where
 // it falls and whether its record fits; the loops that ask decide every refusal.
 // Each contract says that the function does the steps of its tree (crate `rules`, specs/Minor.antt), whatever the rest of the world is.
 #![tactic(auto)]

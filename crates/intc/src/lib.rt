@@ -1,5 +1,4 @@
-// The registers of an interrupt controller: reads, and writes on the controller and on the device around it. Matches on offset and size go
-// one number at a time. Quoted words are document 01's.
+// The registers of an interrupt controller: reads, and writes on the controller and on the device around it. Quoted words are document 01's.
 #![tactic(auto)]
 
 ghost use Rattle.std.specs.Prelude.{◌≡◌, ◌≤◌, ◌<◌, set, is_some, unwrap_or};

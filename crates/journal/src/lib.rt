@@ -13,7 +13,8 @@ ghost use Rattle.journal.specs.Undoing.{Undone, undo_as, undo_line, undo_lines, 
 use act::{Flow, Step, Stopped};
 use rules::Refusal;
 
-// ---- records. (That one lies within the journal stays a clause: it is read and laid down where it lies, among others, by its place.)
+// ---- records. (That one lies within the journal stays a clause: it is read and laid down where it lies, among others, by its place. Its kind stays the number
+// of the journal's format, and no enum: what is read may have any.)
 
 // "Each is 16 bytes: mark 4A 52, kind, width, 4-byte place, 8-byte old value (big-endian, zeros in front)."
 pub fn put_record(journal: &mut [u8], at: usize, kind: u8, width: u8, place: u32, value: u64)
@@ -73,28 +74,19 @@ pub fn store_table(
 // ---- undoing
 
 // "Kind 0: memory store (width 1, 2, 4; address)."
+#[tactic(auto, unfolding(rules::specs::Carry::legal))]
 pub fn is_memory_width(width: usize) -> bool
     ensures { result ≡ legal in_window width }
 {
-    match width {
-        1 => true,
-        2 => true,
-        4 => true,
-        _ => false,
-    }
+    matches!(width, 1 | 2 | 4)
 }
 
 // "Kind 1: descriptor store (1, 2, 4, 8; table offset)."
+#[tactic(auto, unfolding(rules::specs::Carry::legal))]
 pub fn is_table_width(width: usize) -> bool
     ensures { result ≡ legal in_table width }
 {
-    match width {
-        1 => true,
-        2 => true,
-        4 => true,
-        8 => true,
-        _ => false,
-    }
+    matches!(width, 1 | 2 | 4 | 8)
 }
 
 // The record of a memory store: its old value is laid over the window again, if its width and place fit it.
@@ -144,10 +136,7 @@ pub fn undo_store(base: u32, window: &mut [u8], table: &mut [u8; 2048], journal:
 pub fn span(from: usize, to: usize) -> usize
     ensures { result ≡ to - from }
 {
-    if to < from {
-        return 0;
-    }
-    to - from
+    to.saturating_sub(from)
 }
 
 // Undoes the records of stores from `from` up to `to`: none where that is before. "Undoing goes last to first."

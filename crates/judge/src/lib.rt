@@ -33,7 +33,8 @@ pub struct Side {
     pub modulo: u32,
 }
 
-// Both sides; how many whole destination sizes are written where the sizes differ; whether the 32 fetches of a scatter/gather end follow, and where.
+// Both sides; how many whole destination sizes are written where the sizes differ; whether the 32 fetches of a scatter/gather end follow, and where. (`next`
+// is the descriptor's `dlast` either way, as `plan_of` of specs/Walks.antt has it: no Option.)
 #[derive(Clone, Copy)]
 pub struct Plan {
     pub source: Side,
@@ -459,7 +460,7 @@ pub fn record_at(records: &[u8], at: usize) -> Record
     })
 }
 
-// Whether an access is the one that is due.
+// Whether an access is the one that is due. (No derived `==`: what is due and what was seen are two types, and the rules compare them so.)
 #[tactic(auto, unfolding(crate::specs::Walks::meets_due))]
 fn meets_due(due: Option<Due>, x: Seen) -> bool
     ensures { result ≡ meets_due due x }

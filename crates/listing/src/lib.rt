@@ -10,7 +10,7 @@ ghost use Rattle.listing.specs.Lines.{digit_of, digits, line_text, Listed};
 
 pub use print::print_journal;
 
-// ---- text
+// ---- text. (By hand, and not by `{:02x}`: the contracts say each digit.)
 
 // A lower-case digit: 87 is b'a' less 10.
 fn digit(n: u8) -> u8
@@ -48,7 +48,7 @@ fn put_line(journal: &[u8], at: usize, out: &mut [u8], to: usize)
     out[to + 32] = b'\n';
 }
 
-// "Mark 4A 52". It stays beside that of crate `scan`: the one crate below both, `rules`, holds types and no code.
+// "Mark 4A 52". (Crate `scan` has the same test: the printer stands on `rules` and `pieces` alone, and is proved without the engine.)
 #[tactic(auto, using(crate::proofs::Laws::mark_is))]
 fn is_marked(journal: &[u8], at: usize) -> bool
     requires { at + 16 ≤ length journal.now }

@@ -38,7 +38,7 @@ fn csr_loses(csr: u16, bit: usize) -> u16
     words::lose_bit(csr as u64, bit) as u16
 }
 
-// ---- a bit of one scalar register, where `on`
+// ---- a bit of one scalar register, where `on`. (A function for each: a field has no name that could be passed, and a closure for it would say the line again.)
 
 pub fn raise_int(s: Step, on: bool, ch: usize) -> Step
     requires { ch < 64 }

@@ -13,7 +13,6 @@ use Rattle.rules.specs.Carry.{World, Out, ok, go, Lent}
 use Rattle.rules.specs.Minor.{tcd_of, ssize, dsize, move_sizes, move_unequal, transfer, minor_bytes, minor_end, offset, source_offset, dest_offset, pass}
 use Rattle.rules.specs.Words.{count_of, size_of, wholes}
 use Rattle.rules.specs.State.{Device}
-use Rattle.rules.specs.declared.Refusal.{Refusal}
 use Rattle.rules.specs.declared.Tcd.{Tcd}
 use Rattle.rules.proofs.Steps.{and_then, go_bind}
 use Rattle.act.specs.Worlds.{over, world, came_to, on}

@@ -85,15 +85,24 @@ pub fn fill<F: Read, E: Write>(
     Ok(have)
 }
 
-// Whether the file now stands at this place; why it does not goes to `notes`. (A bool: a caller learns nothing else, and has no value to be without.)
-fn seek_to<F: Seek, E: Write>(file: &mut F, notes: &mut E, path: &[u8], place: i64) -> bool {
+// The file then stands at this place; why it does not goes to `notes`.
+fn seek_to<F: Seek, E: Write>(
+    file: &mut F,
+    notes: &mut E,
+    path: &[u8],
+    place: i64,
+) -> Result<(), Failed>
+    ensures { IfErr result (λ x. x.after ≡ 0) }
+{
     match file.seek(SeekFrom::Start(place.cast_unsigned())) {
-        Ok(at) => at == place.cast_unsigned(),
-        Err(why) => {
-            fail(notes, path, why);
-            false
+        Ok(at) => {
+            if at == place.cast_unsigned() {
+                return Ok(());
+            }
         }
+        Err(why) => fail(notes, path, why),
     }
+    Err(Failed { after: 0 })
 }
 
 // The same from a place in the file on, which is then where the file stands.
@@ -107,9 +116,6 @@ pub fn fill_from<F: Read + Seek, E: Write>(
     ensures within { come result ≤ length buf.old }
     ensures end { IfOk result (λ n. n < length buf.old → IsAtEnd (F.remaining file.new)) }
 {
-    if seek_to(file, notes, path, place) {
-        fill(file, notes, path, buf)
-    } else {
-        Err(Failed { after: 0 })
-    }
+    seek_to(file, notes, path, place)?;
+    fill(file, notes, path, buf)
 }

@@ -30,7 +30,7 @@ fn in_blocks(address: u32) -> bool
     masks::within(0xFC044000, 0xFC053FFF, address)
 }
 
-// 0 DMA; 1, 2, 3: controllers 0, 1, 2.
+// 0 DMA; 1, 2, 3: controllers 0, 1, 2: the number that `block_of` of the rules has.
 fn block_of(address: u32) -> u32
     requires { in_blocks address ≡ true }
     ensures { (result ≡ block_of address) × (result < 4) }

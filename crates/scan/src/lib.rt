@@ -94,6 +94,7 @@ pub fn all_sound(
     requires { from + count * 16 ≤ length journal.now }
     ensures { Scanned result chip base window.now count (drop from journal.now) }
 {
+    // (the labels name the loops; both are left from inside, with the verdict)
     'records: for done in 0..count {
         let at = from + done * 16;
         let Some(bits) = head_of(chip, base, window, journal, at) else {

@@ -37,7 +37,7 @@ fn maps(cr: u32, nbytes: u32, bit: usize) -> bool
     words::has_bit(cr as u64, 7) && words::has_bit(nbytes as u64, bit)
 }
 
-// Whether the source takes it: "bit 31 (source)". (CR and the descriptor are values of two owners: no caller has them in one.)
+// Whether the source takes it: "bit 31 (source)". (CR and the descriptor come from two places, the device and its table, and only these few functions take both.)
 pub fn sources(cr: u32, t: Tcd) -> bool
     ensures { result ≡ source_offset cr t }
 {

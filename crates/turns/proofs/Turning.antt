@@ -4,7 +4,7 @@ use Rattle.std.specs.Prelude.{Result, Ok, Err}
 use mathlib.Core.Bool.{Bool, true, false, cond}
 use mathlib.Core.List.{List}
 use mathlib.Core.Path.{◌≡◌, refl, sym, ap, ap₂, ◌∙◌}
-use Prim.Native.Nat.{ℕ, suc, ◌+◌, ◌-◌, ◌*◌, ◌^◌, ◌≤◌, ◌<◌, min}
+use Prim.Native.Nat.{ℕ, suc, ◌+◌, ◌*◌, ◌^◌, ◌≤◌, ◌<◌, min}
 use native.Mathlib.Nat.{mod-eq_of_lt, mul-le-mul_left}
 use native.Mathlib.Omega.{arith}
 use borrow.Author.Tests.{eq-eqb, ne_eqb, lt-ltb, le-ltb}
@@ -21,7 +21,6 @@ use Rattle.rules.specs.Run.{start_loop, start_passes, line_loop, line_passes, re
 use Rattle.rules.specs.Words.{has, gain, lose, lowest}
 use Rattle.rules.specs.State.{Device}
 use Rattle.rules.specs.With.{with_scalars, with_table, with_majors}
-use Rattle.rules.specs.declared.Refusal.{Refusal}
 use Rattle.rules.specs.declared.Scalars.{Scalars}
 use Rattle.rules.proofs.Steps.{putting, go-done, bind_ok, bind_no, then_ok, change-does}
 use Rattle.act.specs.Worlds.{came_to}

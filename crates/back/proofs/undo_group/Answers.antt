@@ -3,14 +3,11 @@ use Rattle.rules.proofs.Typed.{table-size}
 use Rattle.journal.proofs.Back.{line_as_long}
 use Rattle.scan.proofs.Laws.{mode_scanning}
 use Rattle.back.proofs.UndoLaws.{undo-turn, still_sound, undo_none, field_held, field_so, store_so, store_undone, both_undone, mode_kept}
-use Rattle.back.specs.Standing.{undo_field}
-use Rattle.rules.specs.TakeBack.{decode}
-use Rattle.rules.specs.Bytes.{part}
 use Rattle.rules.specs.State.{Device}
 use Rattle.rules.specs.View.{view}
 use native.Mathlib.Omega.{arith}
-use mathlib.Core.Path.{◌≡◌, refl, sym, ap, ◌∙◌}
-use Prim.Native.Nat.{◌+◌, ◌*◌, ◌-◌}
+use mathlib.Core.Path.{refl, sym, ap, ◌∙◌}
+use Prim.Native.Nat.{◌-◌}
 use Rattle.back.proofs.undo_group.Goals as goal
 
 pub loop-k-init : goal.loop-k-init

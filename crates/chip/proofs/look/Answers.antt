@@ -1,6 +1,5 @@
 -- `chip::look` meets its contract. The loop's invariant: the channels below have been looked at. Assumes nothing.
 use mathlib.Core.Path.{refl, ◌∙◌}
-use borrow.Author.Rules.{rules}
 use Rattle.chip.proofs.Seeing.{sees_none, sees_more, sees_all}
 use Rattle.chip.proofs.look.Goals as goal
 
