@@ -1,5 +1,7 @@
 // The end of a call that is an act, the same for every call: lines and level anew, the last records, and what the call answers. What an act
 // changed besides the core, its call notes between `settle` and `done`; and where the call is refused, its call undoes its stores.
+// (A journal and its used length stay two values here and above, since C lends them so and an act that is refused hands the length back as it was. What an act
+// could have changed, as level bytes, is a bool that its call knows: whether they are looked at changes no answer.)
 #![tactic(auto)]
 
 ghost use Rattle.std.specs.Prelude.{◌≡◌, ◌≤◌, length};

@@ -65,7 +65,7 @@ pub fn note_end(s: Noted, used: usize, journal: &mut [u8]) -> Noted
 // ---- the fields of an array that differ: `first` is the number of its first element.
 // Most are the same at the end of an act, so an array is gone through in blocks, and only a block that differs goes element by element.
 
-// What an array's elements are: numbers of some width.
+// What an array's elements are: numbers of some width. (Of them this crate needs XOR and OR, and neither bytes nor a way back.)
 trait Element: Copy + Default + Into<u64> + BitXor<Output = Self> + BitOr<Output = Self> {
     // The number that an element is.
     ghost number: { Self → ℕ };

@@ -48,7 +48,7 @@ pub fn driven(c: usize, int: u64, lines: u64) -> u64
     }
 }
 
-// ---- deliverable sources
+// ---- deliverable sources. (Whether masks are ignored is a setting of the device, and stays a bool beside a controller, as the rules have it.)
 
 // "Deliverable: lines not masked, or forced (with the ignore setting, lines or forced)." Forced ones are not masked.
 pub fn deliverable(k: Controller, ignore: bool) -> u64

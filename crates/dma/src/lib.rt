@@ -14,6 +14,8 @@ ghost use Rattle.dma.specs.Started.{starts_in};
 use act::Step;
 use rules::{START, Scalars};
 
+// (That an offset is none of the table stays a clause, as the arms that it shuts out are the rules'.)
+
 // ---- is there such a register: refusal 3 comes before anything is done, and so this is asked apart
 
 fn byte_known(off: u32) -> bool

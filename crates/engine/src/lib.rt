@@ -142,7 +142,8 @@ fn beginning(
     dma_service(n, time, busy, pending, used)
 }
 
-// ---- a call
+// ---- a call. (The three arrays stand there twice, as they were at entry and as they are: a struct of them would be a copy more, or references, for which see
+// crate `act`.)
 
 // The last records of an act of turns, and what it answers: busy times, majors and pending counts are compared with those at entry.
 fn end_turns(

@@ -99,6 +99,9 @@ fn move_unit<const WIDTH: usize>(
     store(base, window, b, WIDTH, v, journal, at)
 }
 
+// (How many sizes, what they step by, and from where to where, stay four arguments, as the trees take them: a transfer of sizes, of units and of known units
+// differ in each of them.)
+
 // ---- sizes of 1, 2 and 4 bytes, each one unit: "only the step by `soff` or `doff` after each whole size uses modulo"
 
 fn move_units<const WIDTH: usize>(

@@ -17,7 +17,8 @@ pub const BYTES: usize = 8720;
 
 // ---- numbers of 64, 32, 16 and 8 bits, each in 8 bytes, from place `from` on
 
-// A number that is held in 8 bytes of an image, of which it may need fewer.
+// A number that is held in 8 bytes of an image, of which it may need fewer. (Not `words::Word`, whose numbers have as many bytes as they need, nor `Into<u64>`
+// alone, which has no way back.)
 trait Held: Copy {
     // How many bits it has.
     ghost bits: { ℕ };

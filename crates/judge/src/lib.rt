@@ -579,7 +579,8 @@ fn unless_cut(n: u64, is_cut: bool, found: Judged) -> Captured
     }
 }
 
-// What a course came to, where `n` records were there and then a cut one or none.
+// What a course came to, where `n` records were there and then a cut one or none. (This function and the two above take plan, sources and origin apart, as
+// docs/PROMISES.md has them; that a number of a record is below 2^62 is what keeps sums of them in 64 bits.)
 #[tactic(auto, unfolding(crate::specs::Walks::verdict_of))]
 pub fn verdict(p: Plan, sources: &[u8], origin: u64, n: u64, is_cut: bool, c: Course) -> Captured
     requires { Fitting p × Safe c }

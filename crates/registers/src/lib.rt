@@ -21,7 +21,8 @@ use act::{Core, Done, Flow};
 use acting::{Reached, refused};
 use rules::{Acknowledged, Acted, Device, Heard, Reading, Refusal, Verdict};
 
-// ---- addresses
+// ---- addresses. (Address or offset, size and value stay three numbers, and three masks of lines three, in the order of the documents and of C: each function
+// takes those that it needs, and the rules' definitions take them so.)
 
 // "Blocks of 0x4000 bytes: DMA 0xFC044000, controllers 0, 1, 2 at 0xFC048000, 0xFC04C000, 0xFC050000."
 fn in_blocks(address: u32) -> bool
