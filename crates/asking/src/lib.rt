@@ -1,6 +1,6 @@
 // What a call tests before it does anything: refusals 1, 5, 6 and 7 of document 01 and 14 of document 02, quoted from them.
-// Each contract is an equation with a definition of crate `rules` (specs/Calls.antt). (They answer a bool and no refusal: two of them stand behind one number
-// in several calls, and the order in which a call asks is its own.)
+// Each contract is an equation with a definition of crate `rules` (specs/Calls.antt). (They answer a bool and no refusal: a read, an act and a take-back each
+// have an answer of their own to put it into, and each its order.)
 #![tactic(auto)]
 
 ghost use Rattle.std.specs.Prelude.{◌≡◌};
