@@ -18,10 +18,12 @@ pub fn tcd_read(d: Device, off: u32, size: u32) -> u32
     ensures { result ≡ number (part d.table off size) }
 {
     let at = off as usize;
+    // Taken out first: `&d.table` would make the compiler copy the whole device.
+    let table = d.table;
     match size {
-        1 => u32::from(words::get::<u8>(&d.table, at)),
-        2 => u32::from(words::get::<u16>(&d.table, at)),
-        _ => words::get::<u32>(&d.table, at),
+        1 => u32::from(words::get::<u8>(&table, at)),
+        2 => u32::from(words::get::<u16>(&table, at)),
+        _ => words::get::<u32>(&table, at),
     }
 }
 
