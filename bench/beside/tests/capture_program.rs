@@ -9,7 +9,6 @@ use model::capture::{self, Access, Flaw, Verdict};
 use std::ffi::OsStr;
 use std::fs::{self, File};
 use std::io::{BufWriter, Seek, SeekFrom, Write};
-use std::os::unix::fs::symlink;
 use std::path::{Path, PathBuf};
 use std::process::Command;
 use std::{env, iter};
@@ -500,9 +499,10 @@ fn the_page_in_a_script() {
     let (_, script) =
         blocks().into_iter().find(|(name, _)| *name == "sh").expect("the page has one");
     let folder = folder("page-in-a-script");
-    fs::create_dir(folder.join("target")).expect("a folder can be made");
-    let programs = programs().canonicalize().expect("the programs are there");
-    symlink(programs, folder.join("target/bin")).expect("a link can be made");
+    let bin = folder.join("target/bin");
+    fs::create_dir_all(&bin).expect("a folder can be made");
+    // A copy: `rt ci` refuses a checkout that a link stands in, and the tests are run again in it.
+    fs::copy(programs().join("capture"), bin.join("capture")).expect("the program can be copied");
     let mut list = listed(RUN_ONLY_LIST);
     for (file, change) in [("good", 0), ("wrong", 31), ("none", 16)] {
         if change > 0 {
