@@ -6,12 +6,11 @@ use Prim.Native.Nat.{ℕ, suc, ◌+◌, ◌-◌, ◌*◌, ◌%◌, ◌^◌, ◌�
 use native.Mathlib.Omega.{arith}
 use borrow.Author.Tests.{leb-true, lt-ltb, le-ltb, eqb-true, eqb-false}
 use lib.Dec.{eqb, leb}
-use lib.ListN.{get_or, set, length}
-use lib.Seq.{get_or-set_same, get_or-set_other}
+use lib.ListN.{get_or}
 use Rattle.std.proofs.Common.{Option, None, Some, is_some}
 use Rattle.std.specs.Prelude.{unwrap_or}
 use Rattle.rules.proofs.BoolLaws.{and_right}
-use Rattle.capture_file.specs.Hex.{nibble_of, digit_in, digits_from, spelled_from, byte_of}
+use Rattle.capture_file.specs.Hex.{nibble_of, digit_in, digits_from, spelled_from}
 
 -- a digit's number
 
@@ -84,13 +83,3 @@ module _ (text : List ℕ) (k n : ℕ) where
   spelled_end v h =
       let left : n - k ≡ 0 = omega arith in
       rw left
-
--- ---- bytes
-
-pub filled_on : (out text : List ℕ) (k b : ℕ) → k < length out → ((j : ℕ) → j < k → get_or out j 0 ≡ byte_of text j) → b ≡ byte_of text k
-    → (j : ℕ) → j < k + 1 → get_or (set out k b) j 0 ≡ byte_of text j
-filled_on out text k b h f e j l = by (eqb j k) refl
-  where
-    by : (t : Bool) → eqb j k ≡ t → get_or (set out k b) j 0 ≡ byte_of text j
-    by true q = let here : j ≡ k = eqb-true j k q in rw here (get_or-set_same out k b 0 h ∙ e)
-    by false q = get_or-set_other out k j b 0 (eqb-false j k q) ∙ f j (omega (arith, l, eqb-false j k q))

@@ -70,9 +70,6 @@ pub own_numbers : (chip : Bool) {l : List ℕ} → chip ≡ true → l ≡ count
 unfolding counting bits_of
 own_numbers chip e p = rw (p, e) refl
 
-pub no_numbers : (chip : Bool) → chip ≡ false → view_priorities chip (replicate 64 0) ≡ cond chip (counting 64 0) (replicate 64 0)
-no_numbers chip e = rw e refl
-
 -- one stored that the mode's bits can hold
 pub priority_put : (d : HeldDevice) (ch v : ℕ) → v < 2 ^ bits_in d.chip (PRIORITY ch) → view (prioritized d (set d.priorities ch v)) ≡ with_field (PRIORITY ch) v (view d)
 unfolding bits_of

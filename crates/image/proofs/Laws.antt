@@ -47,10 +47,6 @@ laid-turn x from v l k u y z e b p r q =
     ∙ sym (splice_append x (2064 + 8 * (from + k)) (bytes 8 (get_or v k 0)) (laid (drop (suc k) v)))
     ∙ more
 
-pub laid_all : (x : List ℕ) (from : ℕ) (v : List ℕ) (left : ℕ) (y : List ℕ) → left ≡ 0
-    → y ≡ splice x (2064 + 8 * (from + left)) (laid (drop left v)) → y ≡ splice x (2064 + 8 * from) (laid v)
-laid_all x from v left y e p = p ∙ ap (λ n. splice x (2064 + 8 * (from + n)) (laid (drop n v))) e ∙ ap (λ n. splice x (2064 + 8 * n) (laid v)) (add-zero from)
-
 -- the same where the length is told in another way
 pub row-none : (x : List ℕ) (from : ℕ) (v : List ℕ) {n : ℕ} → length v ≡ n → x ≡ splice x (2064 + 8 * (from + n)) (laid (drop n v))
 row-none x from v long = subst (λ (m : ℕ). x ≡ splice x (2064 + 8 * (from + m)) (laid (drop m v))) long (laid_none x from v)

@@ -101,10 +101,6 @@ levels_in_lem (x ∷ bs) s k b h =
     by true t past here = levels-here k s x bs (b 0) (ltb-true s 64 t) here
     by false t past here = levels-past k s x bs (b 0) h (ltb-false s 64 t) past
 
--- the code's store where there is no such source
-pub level_none : (k : Controller) (s x : ℕ) → length k.levels ≡ 64 → 64 ≤ s → k ≡ storing k s x
-level_none k s x h l = ap (with_levels k) (sym (set_out k.levels s x (omega arith)))
-
 -- a turn of the loop over the bytes of v, the last first: n of them are stored
 module _ (k : Controller) (s v : ℕ) where
   abbrev laid : ℕ → ℕ → Controller

@@ -4,9 +4,7 @@ use mathlib.Core.List.{List, []}
 use mathlib.Core.Logic.{inl, inr}
 use mathlib.Core.Path.{◌≡◌, sym, ap, ◌∙◌}
 use Prim.Native.Nat.{ℕ, suc, ◌+◌, ◌*◌, ◌/◌, ◌≤◌, ◌<◌}
-use native.Mathlib.Nat.{suc-mul, div-mul-le_self}
-use lib.ListN.{length, take}
-use lib.Seq.{length-take-le}
+use native.Mathlib.Nat.{suc-mul}
 use Rattle.rules.specs.Act.{Act, ◌>>=◌, ◌>>◌, done, stage}
 use Rattle.rules.specs.Calls.{world_of}
 use Rattle.rules.specs.Carry.{World, Out, go, Lent}
@@ -25,10 +23,6 @@ use Rattle.unequal_sizes.specs.declared.Written.{Written}
 -- one size fewer is left
 pub fewer : (left rest size : ℕ) → left ≡ suc rest → left * size ≡ rest * size + size
 fewer left rest size more = ap (λ (n : ℕ). n * size) more ∙ suc-mul rest size
-
--- whole sizes of what was read stand in it
-pub within_take : (n size : ℕ) (l : List ℕ) → n ≤ length l → n / size * size ≤ length (take n l)
-within_take n size l h = rw (length-take-le n l h) (div-mul-le_self n size)
 
 -- a size that is none of 1, 2 and 4 is whole units of 4
 pub whole-units : (n : ℕ) → Sized n → (n ≡ 1 → ⊥) → (n ≡ 2 → ⊥) → n / 4 * 4 ≡ n
