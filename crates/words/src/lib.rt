@@ -105,11 +105,13 @@ impl Word for u8 {
     ghost told_by_number = { λ _ _ e. e };
 
     fn read(s: &[u8], at: usize) -> u8 {
-        u8::from_be_bytes(bytes_at(s, at))
+        let found = bytes_at::<1>(s, at);
+        u8::from_be_bytes(found)
     }
 
     fn write(self, s: &mut [u8], at: usize) {
-        lay(s, at, &self.to_be_bytes());
+        let laid = self.to_be_bytes();
+        lay::<1>(s, at, &laid);
     }
 }
 
@@ -121,11 +123,13 @@ impl Word for u16 {
     ghost told_by_number = { λ _ _ e. e };
 
     fn read(s: &[u8], at: usize) -> u16 {
-        u16::from_be_bytes(bytes_at(s, at))
+        let found = bytes_at::<2>(s, at);
+        u16::from_be_bytes(found)
     }
 
     fn write(self, s: &mut [u8], at: usize) {
-        lay(s, at, &self.to_be_bytes());
+        let laid = self.to_be_bytes();
+        lay::<2>(s, at, &laid);
     }
 }
 
@@ -137,11 +141,13 @@ impl Word for u32 {
     ghost told_by_number = { λ _ _ e. e };
 
     fn read(s: &[u8], at: usize) -> u32 {
-        u32::from_be_bytes(bytes_at(s, at))
+        let found = bytes_at::<4>(s, at);
+        u32::from_be_bytes(found)
     }
 
     fn write(self, s: &mut [u8], at: usize) {
-        lay(s, at, &self.to_be_bytes());
+        let laid = self.to_be_bytes();
+        lay::<4>(s, at, &laid);
     }
 }
 
@@ -153,11 +159,13 @@ impl Word for u64 {
     ghost told_by_number = { λ _ _ e. e };
 
     fn read(s: &[u8], at: usize) -> u64 {
-        u64::from_be_bytes(bytes_at(s, at))
+        let found = bytes_at::<8>(s, at);
+        u64::from_be_bytes(found)
     }
 
     fn write(self, s: &mut [u8], at: usize) {
-        lay(s, at, &self.to_be_bytes());
+        let laid = self.to_be_bytes();
+        lay::<8>(s, at, &laid);
     }
 }
 

@@ -6,4 +6,4 @@ use Rattle.words.proofs.U16Word.read.Goals as goal
 
 pub returns : goal.returns
 unfolding number part
-returns c = c.from_be_bytes.ensures ∙ ap (from_be_bytes w16) c.bytes_at.ensures ∙ omega arith
+returns c = c.from_be_bytes.ensures ∙ ap (from_be_bytes w16) c.bytes_at-found.ensures ∙ omega arith

@@ -5,4 +5,4 @@ use Rattle.words.proofs.U64Word.write.Goals as goal
 
 pub returns : goal.returns
 unfolding bytes
-returns c = c.lay.ensures ∙ rw (c.to_be_bytes.ensures, div-one c.args.self)
+returns c = c.lay.ensures ∙ rw (c.to_be_bytes-laid.ensures, div-one c.args.self)

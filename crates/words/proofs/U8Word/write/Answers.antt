@@ -7,4 +7,4 @@ pub returns : goal.returns
 unfolding bytes
 returns c =
     let all : c.args.self % 256 ≡ c.args.self = omega arith in
-    c.lay.ensures ∙ rw (c.to_be_bytes.ensures, div-one c.args.self, all)
+    c.lay.ensures ∙ rw (c.to_be_bytes-laid.ensures, div-one c.args.self, all)
