@@ -2,6 +2,8 @@
 // has all of them. Why a file could not be opened or read goes to standard error.
 #![tactic(auto)]
 
+ghost use Rattle.std.specs.Prelude.{◌≤◌, length};
+
 use std::env::FillError;
 use std::rt::Env;
 
@@ -15,7 +17,9 @@ fn is_given(rt: &HostRuntime, i: usize) -> bool {
 }
 
 // An argument's bytes: none of one that is too long.
-fn argument<'a>(rt: &HostRuntime, i: usize, text: &'a mut [u8]) -> &'a [u8] {
+fn argument<'a>(rt: &HostRuntime, i: usize, text: &'a mut [u8]) -> &'a [u8]
+    ensures { length result.now ≤ length text.old }
+{
     match rt.arg(i, text) {
         Ok(n) => &text[..n],
         Err(_) => &[],

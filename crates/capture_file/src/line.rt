@@ -59,8 +59,12 @@ impl From<Seen> for Access {
 impl Display for Access {
     fn fmt<W: fmt::Write>(&self, f: &mut Formatter<W>) -> fmt::Result {
         let kind = if self.is_read { "read" } else { "write" };
-        let plural = if self.width == 1 { "" } else { "s" };
-        write!(f, "a {kind} of {} byte{plural}", self.width)?;
+        // (each word in one piece: what is printed goes out piece by piece)
+        if self.width == 1 {
+            write!(f, "a {kind} of {} byte", self.width)?;
+        } else {
+            write!(f, "a {kind} of {} bytes", self.width)?;
+        }
         if let Some(value) = self.value {
             // two digits for each byte of the width
             let digits = self.width as usize % 16 * 2;
@@ -110,8 +114,11 @@ fn print_departure<F: Read + Seek, O: Write, E: Write>(
 }
 
 fn print_allowed<O: Write>(out: &mut O, records: u64) -> io::Result<()> {
-    let plural = if records == 1 { "" } else { "es" };
-    writeln!(out, "allowed: {records} access{plural}")
+    if records == 1 {
+        writeln!(out, "allowed: {records} access")
+    } else {
+        writeln!(out, "allowed: {records} accesses")
+    }
 }
 
 // Stays a function: `Flaw` is of another crate, so that `Display` would need a type round it, and these words are this program's.

@@ -1,4 +1,4 @@
--- `capture_file::course::Records::judge_pieces` meets its contract: what is safe stays so, and the measure is how many more records a file could have.
+-- `capture_file::course::Records::judge_pieces` meets its contract: what is safe stays so.
 -- Assumes nothing.
 use Rattle.judge.specs.Walks.{Safe}
 use Rattle.capture_file.proofs.course.Records.judge_pieces.Given as goal
