@@ -1,7 +1,7 @@
 // The command bytes of the DMA registers, 0x18 to 0x1F: what each does to the device's numbers and table, and to the journal.
 #![tactic(auto)]
 
-ghost use Rattle.std.specs.Prelude.{◌≡◌, ◌<◌, ◌≤◌, ℕ};
+ghost use Rattle.std.specs.Prelude.{Ok, ◌≡◌, ◌<◌, ◌≤◌, ℕ};
 ghost use Rattle.std.specs.Int.Bits.{bit_or};
 ghost use Rattle.rules.specs.Act.{change, when};
 ghost use Rattle.rules.specs.Scalars.{KICK};
@@ -10,7 +10,7 @@ ghost use Rattle.act.specs.Lent.{◌⇒◌};
 ghost use Rattle.act.specs.Worlds.{OnTable, OnScalars};
 ghost use Rattle.dma_commands.specs.Commands.{Makes, OnNumbers, Commands};
 
-use act::Step;
+use act::{Flow, Step};
 use rules::{DONE, START, Scalars};
 
 // ---- commands that change scalar registers
@@ -73,21 +73,21 @@ pub fn with_kick(s: Step, on: bool, m: u64) -> Step
 
 // "A START or DONE bit is one of width 1 at 0x1F": of channel `ch`, whose last byte becomes what `flagged` makes of it.
 fn flag_one<F: Fn(u64) -> u64>(
-    s: Step,
+    c: Flow,
     table: &mut [u8; 2048],
     flagged: &F,
     ch: usize,
     journal: &mut [u8],
 ) -> Step
     requires { (ch < 64) × F.IsAlwaysCallable flagged.now }
-    ensures { (g : ℕ → ℕ) → Makes (F.post flagged.now) g → OnTable (flag_one g ch) s result ⇒ journal ⇒ table }
+    ensures { (g : ℕ → ℕ) → Makes (F.post flagged.now) g → OnTable (flag_one g ch) (Ok c) result ⇒ journal ⇒ table }
 {
     let place = 32 * ch + 0x1F;
     let b = u64::from(words::get::<u8>(table, place));
-    journal::store_table(s, table, place, 1, flagged(b), journal)
+    journal::store_table(Ok(c), table, place, 1, flagged(b), journal)
 }
 
-// "Channels rising": of those in `m`.
+// "Channels rising": of those in `m`. (What each does is left at once where one is refused: a step handed on whole takes twice the time.)
 fn flag_each<F: Fn(u64) -> u64>(
     s: Step,
     table: &mut [u8; 2048],
@@ -98,13 +98,13 @@ fn flag_each<F: Fn(u64) -> u64>(
     requires { F.IsAlwaysCallable flagged }
     ensures { (g : ℕ → ℕ) → Makes (F.post flagged) g → OnTable (flag_each g m 64 0) s result ⇒ journal ⇒ table }
 {
-    let mut t = s;
+    let mut c = s?;
     for ch in 0..64 {
         if words::has_bit(m, ch) {
-            t = flag_one(t, table, &flagged, ch, journal);
+            c = flag_one(c, table, &flagged, ch, journal)?;
         }
     }
-    t
+    Ok(c)
 }
 
 // SSRT: the named channels get START, one record each, and then their KICK bits.

@@ -46,7 +46,9 @@ fn read_byte(d: Device, off: u32) -> Cell
         return None;
     }
     if masks::within(0x100, 0x13F, off) {
-        return Some(low_six(d.priorities[(off - 0x100) as usize]));
+        // Taken out first, as the table above.
+        let priorities = d.priorities;
+        return Some(low_six(priorities[(off - 0x100) as usize]));
     }
     None
 }

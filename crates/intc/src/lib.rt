@@ -24,7 +24,8 @@ fn read_byte(k: Controller, off: u32) -> Cell
     ensures { reads result ≡ controller_read (view_controller k) off 1 }
 {
     if masks::within(0x40, 0x7F, off) {
-        return Some(u32::from(k.levels[(off - 0x40) as usize]));
+        let levels = k.levels;
+        return Some(u32::from(levels[(off - 0x40) as usize]));
     }
     if masks::within(0x1C, 0x1F, off) {
         return Some(0);

@@ -8,8 +8,8 @@ use Rattle.intc.proofs.read_byte.Goals as goal
 pub overflow_sub-off : goal.overflow_sub-off
 overflow_sub-off c = omega (arith, within_true _ _ _ (sym c.within.ensures ∙ c.if-within.true))
 
-pub bounds-k-off : goal.bounds-k-off
-bounds-k-off c = omega (arith, within_true _ _ _ (sym c.within.ensures ∙ c.if-within.true))
+pub bounds-levels-off : goal.bounds-levels-off
+bounds-levels-off c = omega (arith, within_true _ _ _ (sym c.within.ensures ∙ c.if-within.true))
 
 pub returns-then-within : goal.returns-then-within
 returns-then-within c = rw c.from.ensures (read_level _ _ (sym c.within.ensures ∙ c.if-within.true))
