@@ -4,10 +4,10 @@ use mathlib.Core.List.{List, [], ◌∷◌, ◌++◌}
 use mathlib.Core.Option.{Option, none, some}
 use mathlib.Core.Path.{◌≡◌, refl, sym, ap, ap₂, ◌∙◌, subst}
 use Prim.Native.Nat.{ℕ, zero, suc, ◌+◌, ◌-◌, ◌%◌, ◌^◌, ◌≤◌, ◌<◌}
-use native.Mathlib.Nat.{zero-add, add-zero, add-suc, suc-add, mod-eq_of_lt, lt_of_lt_of_le}
+use native.Mathlib.Nat.{zero-add, add-zero, add-suc, suc-add, mod-eq_of_lt, le_trans, lt_of_lt_of_le}
 use native.Mathlib.Omega.{arith}
 use borrow.Author.Tests.{ltb-true, leb-true}
-use lib.Dec.{leb, ltb}
+use lib.Dec.{leb, ltb, lit≤}
 use lib.ListN.{get_or, set, length, replicate}
 use lib.Pow.{pow_mono}
 use Rattle.rules.specs.Act.{Field, SCALAR, MASKS, FORCED, LINES, CONFIG, BUSY, MAJORS, PENDING, SOURCE, TAKEN, PRIORITY}
@@ -168,6 +168,13 @@ pub priority_byte : (chip : Bool) (ch v : ℕ) → fits_some chip (some (PRIORIT
 unfolding bits_of
 priority_byte chip ch v h = let k = fits_bits chip (PRIORITY ch) v h in omega arith
 
+pub bits_most : (chip : Bool) (n : ℕ) → bits_at chip n ≤ 64
+bits_most chip n = most (field_at chip n)
+  where
+    most : (o : Option Field) → bits_some chip o ≤ 64
+    most none = lit≤ tt
+    most (some f) = le_trans (bits-in-most chip f) (leb-true (bits_of f) 64 (some_to_64 f).1)
+
 -- the code's table
 pub listed_bits : (n : ℕ) → n < length scalar_bits → get_or scalar_bits n 0 ≡ bits_of (SCALAR n)
 unfolding bits_of
@@ -183,6 +190,15 @@ found_ranged chip n {b} p = by (field_at chip n) refl p
         let s : b ≡ bits_of f = same_Some b _ e ∙ named_bits chip n f q in
         let r = some_to_64 f in
         (rw s (ltb-true 0 (bits_of f) r.0), rw s (leb-true (bits_of f) 64 r.1))
+
+-- and where no bits are, no value fits
+module _ (chip : Bool) (n v : ℕ) {b : ℕ} (e : b ≡ bits_at chip n) where
+  pub fits_none : b ≡ 0 → false ≡ fits_some chip (field_at chip n) v
+  fits_none z = by (field_at chip n) refl (sym e ∙ z)
+    where
+      by : (o : Option Field) → field_at chip n ≡ o → bits_some chip o ≡ 0 → false ≡ fits_some chip o v
+      by none p q = refl
+      by (some f) p q = absurd (omega (arith, ltb-true 0 (bits_of f) (some_to_64 f).0, sym (named_bits chip n f p) ∙ q))
 
 -- ---- numbers cut to their bits
 

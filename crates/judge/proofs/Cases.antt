@@ -1,5 +1,5 @@
 -- The walk's definitions, by cases. Assumes nothing.
-use Rattle.std.proofs.Common.{◌≡◌, ℕ, zero, suc, ◌+◌, ◌-◌, ◌*◌, ◌/◌, ◌%◌, ◌^◌, ◌<◌, ◌≤◌, min, Bool, true, false, ◌&&◌, ◌||◌, eqb, ltb, List, [], ◌∷◌, ◌++◌, length, get_or, sym, refl, ap, ◌∙◌, inl, inr, add-zero, mul-le-mul, arith, lit<, lit≤, le-ltb, lt-ltb, eq-eqb, ne_eqb, Ok, Err}
+use Rattle.std.proofs.Common.{◌≡◌, ℕ, zero, suc, ◌+◌, ◌-◌, ◌*◌, ◌/◌, ◌%◌, ◌^◌, ◌<◌, ◌≤◌, min, Bool, true, false, ◌&&◌, ◌||◌, eqb, ltb, List, [], ◌∷◌, ◌++◌, length, get_or, sym, refl, ap, ◌∙◌, inl, inr, mod-lt, add-zero, mul-le-mul, arith, lit<, lit≤, le-ltb, lt-ltb, eq-eqb, ne_eqb, Ok, Err}
 use Rattle.rules.specs.declared.Tcd.{Tcd}
 use Rattle.rules.specs.Bytes.{number, part}
 use Rattle.rules.specs.Minor.{ESG, ssize, dsize, minor_bytes}
@@ -12,7 +12,7 @@ use Rattle.judge.specs.declared.Side.{Side}
 use Rattle.judge.specs.declared.Plan.{Plan}
 use Rattle.judge.specs.declared.Walk.{Walk}
 use Rattle.judge.specs.declared.Course.{Course}
-use Rattle.judge.specs.Walks.{Record, Parted, Narrow, Fitting, side_of, reads_of, plan_of, moves_from, reads_from, start_of, source_byte, source_bytes, source_number, seen_in, unless_unfit, looked_at, step_of, on_all}
+use Rattle.judge.specs.Walks.{Record, a_unit, Parted, Narrow, Fitting, side_of, reads_of, plan_of, moves_from, reads_from, start_of, source_byte, source_bytes, source_number, seen_in, unless_unfit, looked_at, step_of, on_all}
 
 -- ---- a size and its unit
 
@@ -96,6 +96,19 @@ small_product k unit h l = let h' : k ≤ 8 = omega arith in let m : k * unit �
 
 pub large_product : (n size : ℕ) → n < 2 ^ 32 → size ≤ 32 → n * size ≤ 2 ^ 37
 large_product n size h l = let h' : n ≤ 2 ^ 32 = omega arith in let m : n * size ≤ 2 ^ 32 * 32 = mul-le-mul h' l in omega arith
+
+pub unit_some : (n : ℕ) → a_unit n → 0 < n
+unit_some n (inl e) = omega arith
+unit_some n (inr (inl e)) = omega arith
+unit_some n (inr (inr e)) = omega arith
+
+pub unit_few : (n : ℕ) → a_unit n → n ≤ 4
+unit_few n (inl e) = omega arith
+unit_few n (inr (inl e)) = omega arith
+unit_few n (inr (inr e)) = omega arith
+
+pub in_record : (n j : ℕ) → a_unit n → 16 - n + j % n < 16
+in_record n j u = omega (arith, unit_some n u, unit_few n u, mod-lt j (unit_some n u))
 
 pub place_fits : (written size k unit : ℕ) → written < 2 ^ 32 → size ≤ 32 → k < 8 → unit ≤ 4 → written * size + k * unit < 2 ^ 40
 place_fits written size k unit w s h l = omega (arith, large_product written size w s, small_product k unit h l)

@@ -1,4 +1,4 @@
--- The judge as a walk: what is due at each access, and where the walk stands after it. These are the code's own functions, in its words; that a walk
+-- The judge as a walk: what is due at each access, and where the walk stands after it. They are the code's own steps, in its words; that a walk
 -- judges as the rules do is proved in proofs/Follow.antt. Assumes nothing.
 use Rattle.std.specs.Prelude.{Option, None, Some, Result, Ok, Err, ◌≡◌, ℕ, zero, suc, ◌+◌, ◌-◌, ◌*◌, ◌/◌, ◌%◌, ◌^◌, ◌<◌, ◌≤◌, Bool, false, cond, not, ◌&&◌, ◌⊎◌, List, [], ◌∷◌, ◌==◌, nat_lt, slice_index}
 use Rattle.rules.specs.declared.Tcd.{Tcd}
